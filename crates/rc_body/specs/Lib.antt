@@ -1,0 +1,5 @@
+-- What the contracts of this crate and of those above it cite.
+pub mod Entries
+pub mod Bodies
+pub mod Decisions
+pub mod Pages

@@ -1,0 +1,12 @@
+use Rattle.std.proofs.Common.{◌≤◌, length}
+use Rattle.rc_ports.proofs.Pieces.{IsTakenTo}
+use Rattle.rc_ports.proofs.whole.write_all.Given as goal
+
+abbrev pub invariant-loop-rest : goal.invariant-loop-rest
+invariant-loop-rest g l = record {
+  so_far : IsTakenTo l.bytes l.rest (g.K.Sink.taken l.fn.sink) (g.K.Sink.taken l.sink);
+  later : g.K.Sink.faults l.fn.sink ≤ g.K.Sink.faults l.sink;
+}
+
+abbrev pub decreases-loop-rest : goal.decreases-loop-rest
+decreases-loop-rest g l = length l.rest

@@ -1,0 +1,13 @@
+pub mod Cuts
+pub mod Parts
+pub mod Steps
+pub mod LineFacts
+pub mod LineLoop
+pub mod OnLiterals
+pub mod Numerals
+pub mod Texts
+pub mod Names
+pub mod Spelled
+pub mod SpelledAgain
+pub mod Orders
+pub mod Scripts
