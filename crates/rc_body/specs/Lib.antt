@@ -3,3 +3,6 @@ pub mod Entries
 pub mod Bodies
 pub mod Decisions
 pub mod Pages
+pub mod Spelling
+pub mod Reading
+pub mod Rows

@@ -1,4 +1,5 @@
 -- Lemmas that several proofs share.
+pub mod DropFacts
 pub mod RowFacts
 pub mod SendFacts
 pub mod SlotFacts

@@ -1,11 +1,13 @@
 -- Rows, where it is known which way they go.
-use Rattle.std.proofs.Common.{◌≡◌, ℕ, Bool, true, false, cond, List, [], ◌++◌, Some, refl, sym, ap, ◌∙◌, append-nil}
-use Rattle.rc_ids.specs.Cluster.{Layout, is_quorum}
+use Rattle.std.proofs.Common.{◌≡◌, ℕ, Bool, true, false, cond, List, [], ◌++◌, Some, refl, sym, ap, subst, ◌∙◌, append-nil}
+use Rattle.std.specs.Prelude.{if◌then◌else◌}
+use Rattle.rc_ids.specs.Cluster.{Layout, is_dc, is_quorum}
 use Rattle.rc_body.specs.declared.decision.Decision.{Decision}
+use Rattle.rc_msg.specs.declared.msg.Msg.TheVariants.{Voted}
 use Rattle.rc_report.specs.declared.line.Line.{Line}
 use Rattle.rc_protocol.specs.Messages.{Sends}
 use Rattle.rc_protocol.specs.Coordinator.{is_decided_by}
-use Rattle.rc_protocol.specs.Client.{Client, ClientAct, Slot, Grant, slot_of, reads_on, wants_grant, with_grant, granted_by, prints_of, completes, takes_grant, on_granted, is_done, client_stays, learns, with_vote, on_voted}
+use Rattle.rc_protocol.specs.Client.{Client, ClientAct, Slot, Grant, slot_of, reads_on, wants_grant, with_grant, granted_by, prints_of, completes, takes_grant, on_granted, is_over, client_stays, learns, with_vote, on_voted, client_row}
 use Rattle.rc_client.specs.Acts.{completes_at, Does}
 use Rattle.rc_client.proofs.SlotFacts.{slot_of-key}
 
@@ -37,11 +39,19 @@ voted-rest t x y o false false = (refl, refl)
 
 -- a vote sends nothing, and wears out nothing
 on_voted-rest : (c : Layout) (t : ℕ) (x : Client) (b d : ℕ) (o : Decision) → ((on_voted c t x b d o).sends ≡ []) × ((on_voted c t x b d o).worn ≡ false)
-on_voted-rest c t x b d o = voted-rest t x (with_vote x b d o) o (is_done x.phase) (is_decided_by c x.votes b d o)
+on_voted-rest c t x b d o = voted-rest t x (with_vote x b d o) o (is_over x.phase) (is_decided_by c x.votes b d o)
 
-pub on_voted-does : (c : Layout) (t : ℕ) (x after : Client) (b d : ℕ) (o : Decision) (out : Sends) (printed lines : List Line)
+on_voted-does : (c : Layout) (t : ℕ) (x after : Client) (b d : ℕ) (o : Decision) (out : Sends) (printed lines : List Line)
     → after ≡ (on_voted c t x b d o).after → lines ≡ printed ++ (on_voted c t x b d o).lines
     → Does (on_voted c t x b d o) after out out printed lines
 on_voted-does c t x after b d o out printed lines state says =
     let rest = on_voted-rest c t x b d o in
     record { state = state; sends = sym (append-nil out) ∙ ap (λ ms. out ++ ms) (sym rest.0); lines = says; lasts = rest.1 }
+
+-- a vote of a datacentre of the world
+pub voted-row : (c : Layout) (t u : ℕ) (x after : Client) (b d : ℕ) (o : Decision) (out : Sends) (printed lines : List Line)
+    → is_dc c d ≡ true → after ≡ (on_voted c t x b d o).after → lines ≡ printed ++ (on_voted c t x b d o).lines
+    → Does (client_row c t x (Voted u b d o)) after out out printed lines
+voted-row c t u x after b d o out printed lines inside state says =
+    let row : client_row c t x (Voted u b d o) ≡ on_voted c t x b d o = ap (λ y. if y then on_voted c t x b d o else client_stays x) inside in
+    subst (λ (act : ClientAct). Does act after out out printed lines) (sym row) (on_voted-does c t x after b d o out printed lines state says)

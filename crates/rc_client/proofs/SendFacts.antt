@@ -2,7 +2,8 @@
 use Rattle.std.proofs.Common.{◌≡◌, ℕ, suc, ◌+◌, ◌≤◌, true, List, [], ◌∷◌, ◌++◌, append_assoc, append-nil, sym, ap, ◌∙◌, arith, add-one}
 use Rattle.rc_ids.specs.Cluster.{Layout, is_dc_count}
 use Rattle.rc_protocol.specs.Messages.{Sends, to_each}
-use Rattle.rc_protocol.specs.Client.{asks, asks_all}
+use Rattle.rc_ids.specs.Tables.{maybe}
+use Rattle.rc_protocol.specs.Client.{Slot, slot_of, asks, asks_all, asks_rest, asks_again}
 
 pub dcs_range : (n : ℕ) → is_dc_count n ≡ true → n ≤ 7
 dcs_range n is = grind arith
@@ -22,3 +23,21 @@ pub asked-more : (c : Layout) (t : ℕ) (start out new : Sends) (ks : List (List
     → new ≡ out ++ asks c t k → new ≡ start ++ asks_all c t (ks ++ k ∷ [])
 asked-more c t start out new ks k done is =
     rw (is, done, asks_all-push c t ks k) (append_assoc start (asks_all c t ks) (asks c t k))
+
+-- what is asked again for a key
+abbrev again : Layout → ℕ → List Slot → List ℕ → Sends
+again c t slots k = maybe (slot_of slots k) [] (asks_rest c t)
+
+asks_again-push : (c : Layout) (t : ℕ) (slots : List Slot) (ks : List (List ℕ)) (k : List ℕ)
+    → asks_again c t slots (ks ++ k ∷ []) ≡ asks_again c t slots ks ++ again c t slots k
+asks_again-push c t slots [] k = append-nil (again c t slots k)
+asks_again-push c t slots (l ∷ ls) k =
+    ap (λ ms. again c t slots l ++ ms) (asks_again-push c t slots ls k)
+    ∙ sym (append_assoc (again c t slots l) (asks_again c t slots ls) (again c t slots k))
+
+pub again-more : (c : Layout) (t : ℕ) (slots : List Slot) (start out new : Sends) (ks : List (List ℕ)) (k : List ℕ)
+    → out ≡ start ++ asks_again c t slots ks → new ≡ out ++ maybe (slot_of slots k) [] (asks_rest c t)
+    → new ≡ start ++ asks_again c t slots (ks ++ k ∷ [])
+again-more c t slots start out new ks k done is =
+    is ∙ ap (λ ms. ms ++ again c t slots k) done ∙ append_assoc start (asks_again c t slots ks) (again c t slots k)
+    ∙ ap (λ ms. start ++ ms) (sym (asks_again-push c t slots ks k))

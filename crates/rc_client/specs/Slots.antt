@@ -1,6 +1,7 @@
 -- The keys that a transaction touched: at most 32, and each once.
-use Rattle.std.specs.Prelude.{◌≡◌, ℕ, ◌<◌, ◌≤◌, Bool, false, ◌||◌, List, [], ◌∷◌, length, map, take, slice_get, None}
+use Rattle.std.specs.Prelude.{◌≡◌, ℕ, ◌<◌, ◌≤◌, Bool, false, ◌||◌, List, [], ◌∷◌, length, map, take, slice_get, None, is_some}
 use Rattle.std.specs.List.{list_any}
+use Rattle.rc_ids.specs.Tables.{maybe}
 use Rattle.rc_ids.specs.Texts.{same_key}
 use Rattle.rc_protocol.specs.Client.{Slot, slot_of, is_under_way, is_unread}
 
@@ -28,3 +29,11 @@ pub record IsPlace (slots : List Slot) (k : List ℕ) (place : ℕ) : Type 0 whe
 -- a read is under way, or is once the reads are begun
 abbrev pub waits_once_begun : List Slot → Bool
 waits_once_begun slots = list_any (λ (s : Slot). is_under_way s.read || is_unread s.read) slots
+
+-- a read of the key is under way
+abbrev pub waits_at : List Slot → List ℕ → Bool
+waits_at slots k = maybe (slot_of slots k) false (λ s. is_under_way s.read)
+
+-- the key is written
+abbrev pub written_at : List Slot → List ℕ → Bool
+written_at slots k = maybe (slot_of slots k) false (λ s. is_some s.write)

@@ -1,8 +1,11 @@
 // A client.
 ghost use Rattle.std.specs.Prelude.{◌≡◌, ◌<◌, [], ◌∷◌, ◌++◌, true, false, length, None, OnOk, IsErrOf, if◌then◌else◌};
-ghost use Rattle.rc_protocol.specs.Client.{new_client, is_open as is_open_lem, slot_of, do_read, do_write, do_commit, client_row, asks_new, reads_slot, proposes, goes_on, on_granted, on_voted, on_refused, on_decided, learns, gives_up};
-ghost use Rattle.rc_protocol.specs.World.{is_full as is_full_lem};
+ghost use Rattle.rc_ids.specs.Cluster.{is_dc as is_dc_lem};
+ghost use Rattle.rc_protocol.specs.Client.{new_client, is_open as is_open_lem, slot_of, do_read, do_write, do_commit, do_cancel, do_retry, do_vanish, client_row, drops_read, proposes_again, asks_again, waiting_keys, is_proposed, reads_on, asks_new, reads_slot, proposes, goes_on, on_granted, on_voted, on_refused, on_decided, learns, gives_up};
+ghost use Rattle.rc_protocol.specs.Refusals.{is_full as is_full_lem};
 ghost use Rattle.rc_client.specs.Acts.{Says, Does, completes_at};
+ghost use Rattle.rc_client.specs.Phases.{phase_of};
+ghost use Rattle.rc_client.specs.Slots.{waits_at};
 ghost use Rattle.rc_report.specs.declared.line.Line.TheVariants.{Read as ReadLine};
 ghost use Rattle.rc_client.specs.declared.fault.ClientFault.TheVariants.{KeyWornOut};
 
@@ -10,12 +13,12 @@ use crate::fault::ClientFault;
 use crate::grant::{Grant, Grants, copied_value};
 use crate::phase::Phase;
 use crate::read::KeyRead;
-use crate::sends::{ask, ask_all, cancel, send_all};
+use crate::sends::{abandon, ask, ask_all, ask_rests, cancel, cancel_all, send_proposal};
 use crate::slot::Slot;
 use crate::slots::Slots;
 use rc_ballots::Tally;
 use rc_body::{Decision, Reason};
-use rc_ids::{Ballot, Cluster, DcId, DcSet, Key, NoMemory, NodeId, Party, TxId, Val, Version};
+use rc_ids::{Ballot, Cluster, DcId, DcSet, Key, NoMemory, TxId, Val, Version};
 use rc_msg::{Msg, Outbox};
 use rc_report::{Line, Lines};
 use std::alloc::Global;
@@ -34,10 +37,20 @@ pub struct Client {
 impl Model for Client {
     ghost use Rattle.rc_protocol.specs.Client.{Client as ClientState};
     ghost use Rattle.rc_client.specs.Phases.{phase_of};
+    ghost use Rattle.rc_client.specs.Lasting.{IsLasting};
 
     ghost Value = { ClientState };
 
     ghost view = { λ c. record { phase = phase_of c.phase; slots = c.slots; refusals = c.refusals; votes = c.votes; outcome = c.outcome } };
+
+    ghost invariant = { λ c. IsLasting (phase_of c.phase) c.slots };
+}
+
+/// Whether the datacentre is of the world.
+fn is_dc(cluster: &Cluster, dc: DcId) -> bool
+    ensures { result ≡ is_dc_lem cluster.now dc }
+{
+    1 <= dc.0 && dc.0 <= cluster.dcs()
 }
 
 /// Prints the line at the end of a key's read, if one is wanted.
@@ -70,6 +83,13 @@ impl Client {
             votes: Tally::new(alloc),
             outcome: None,
         }
+    }
+
+    /// How far the client is.
+    pub fn phase(&self) -> Phase
+        ensures { phase_of result ≡ self.now.phase }
+    {
+        self.phase
     }
 
     /// Whether the client still takes commands.
@@ -144,7 +164,8 @@ impl Client {
 
     /// Buffers a write.
     pub fn write(&mut self, key: &Key, value: &Val) -> Result<(), ClientFault>
-        requires { is_full_lem self.old key.now ≡ false }
+        requires open { is_open_lem self.old.phase ≡ true }
+        requires room { is_full_lem self.old key.now ≡ false }
         ensures done { OnOk result (self.new ≡ (do_write self.old key.now value.now).after) }
         ensures worn { IsErrOf result KeyWornOut → (do_write self.old key.now value.now).worn ≡ true }
     {
@@ -172,6 +193,83 @@ impl Client {
         Ok(())
     }
 
+    /// Drops the read of a key that is under way, and the key with it unless it is written.
+    pub fn cancel(
+        &mut self,
+        cluster: &Cluster,
+        tx: TxId,
+        key: &Key,
+        out: &mut Outbox,
+    ) -> Result<(), ClientFault>
+        ensures done { OnOk result (Says (do_cancel cluster.now tx self.old key.now) self.new out.old out.new) }
+        ensures worn { IsErrOf result KeyWornOut → (do_cancel cluster.now tx self.old key.now).worn ≡ true }
+    {
+        if self.waits_for(key) {
+            self.drop_read(cluster, tx, key, out)?;
+        }
+        Ok(())
+    }
+
+    /// Whether a read of the key is under way.
+    fn waits_for(&self, key: &Key) -> bool
+        ensures { result ≡ waits_at self.now.slots key.now }
+    {
+        self.slots.wait_for(key)
+    }
+
+    /// Drops the read of a key.
+    fn drop_read(
+        &mut self,
+        cluster: &Cluster,
+        tx: TxId,
+        key: &Key,
+        out: &mut Outbox,
+    ) -> Result<(), NoMemory>
+        ensures { OnOk result (Says (drops_read cluster.now tx self.old key.now) self.new out.old out.new) }
+    {
+        self.slots.drop_read(key);
+        cancel_all(cluster, tx, key, out)
+    }
+
+    /// Sends again what the client waits for, and stays as it is.
+    pub fn retry(&self, cluster: &Cluster, tx: TxId, out: &mut Outbox) -> Result<(), ClientFault>
+        ensures done { OnOk result (Says (do_retry cluster.now tx self.now) self.now out.old out.new) }
+        ensures worn { IsErrOf result KeyWornOut → (do_retry cluster.now tx self.now).worn ≡ true }
+    {
+        if self.phase.is_proposed() {
+            self.propose_again(cluster, tx, out)?;
+        } else if self.phase.reads_on() {
+            self.ask_again(cluster, tx, out)?;
+        }
+        Ok(())
+    }
+
+    /// Sends the same proposal again, or gives the transaction up where a quorum refused it.
+    fn propose_again(&self, cluster: &Cluster, tx: TxId, out: &mut Outbox) -> Result<(), NoMemory>
+        requires { is_proposed self.now.phase ≡ true }
+        ensures { OnOk result (out.new ≡ out.old ++ proposes_again cluster.now tx self.now) }
+    {
+        if cluster.quorum().holds(self.refusals) {
+            return abandon(cluster, tx, out);
+        }
+        send_proposal(cluster, tx, self.slots.body()?, out)
+    }
+
+    /// Asks again for the keys whose read is under way, in key order, where they were not granted.
+    fn ask_again(&self, cluster: &Cluster, tx: TxId, out: &mut Outbox) -> Result<(), NoMemory>
+        ensures { OnOk result (out.new ≡ out.old ++ asks_again cluster.now tx self.now.slots (waiting_keys self.now.slots)) }
+    {
+        let keys = self.slots.waiting_keys()?;
+        ask_rests(cluster, tx, &self.slots, keys, out)
+    }
+
+    /// Goes: from now on the client ignores all.
+    pub fn vanish(&mut self)
+        ensures { self.new ≡ (do_vanish self.old).after }
+    {
+        self.phase = Phase::Vanished;
+    }
+
     /// Proposes the commit at ballot 0.
     fn propose(&mut self, cluster: &Cluster, tx: TxId, out: &mut Outbox) -> Result<(), ClientFault>
         ensures done { OnOk result (Says (proposes cluster.now tx self.old self.old) self.new out.old out.new) }
@@ -182,8 +280,7 @@ impl Client {
         }
         let body = self.slots.body()?;
         self.phase = Phase::Proposed;
-        let proposal = Msg::Propose(tx, Ballot(0), Decision::Commit(body));
-        send_all(cluster, &proposal, out)?;
+        send_proposal(cluster, tx, body, out)?;
         Ok(())
     }
 
@@ -209,6 +306,7 @@ impl Client {
         out: &mut Outbox,
         lines: &mut Lines,
     ) -> Result<(), ClientFault>
+        requires { reads_on self.old.phase ≡ true }
         ensures done { OnOk result (Does (completes_at cluster.now tx self.old key.now prints grants.now) self.new out.old out.new lines.old lines.new) }
         ensures worn { IsErrOf result KeyWornOut → (completes_at cluster.now tx self.old key.now prints grants.now).worn ≡ true }
     {
@@ -275,7 +373,7 @@ impl Client {
         ensures { OnOk result ((self.new ≡ (on_voted cluster.now tx self.old ballot dc decision.now).after)
             × (lines.new ≡ lines.old ++ (on_voted cluster.now tx self.old ballot dc decision.now).lines)) }
     {
-        if self.phase.is_done() {
+        if self.phase.is_over() {
             return Ok(());
         }
         let is_decided = self.votes.would_decide(cluster, dc, ballot, decision);
@@ -296,7 +394,7 @@ impl Client {
         ensures { OnOk result ((self.new ≡ (on_decided tx self.old decision.now).after)
             × (lines.new ≡ lines.old ++ (on_decided tx self.old decision.now).lines)) }
     {
-        if self.phase.is_done() {
+        if self.phase.is_over() {
             return Ok(());
         }
         self.learn(tx, decision, lines)
@@ -337,13 +435,22 @@ impl Client {
     {
         match msg {
             Msg::Granted(_, key, dc, version, value) => {
+                if !is_dc(cluster, *dc) {
+                    return Ok(());
+                }
                 self.on_granted(cluster, tx, key, *dc, *version, value, out, lines)
             }
             Msg::Voted(_, ballot, dc, decision) => {
+                if !is_dc(cluster, *dc) {
+                    return Ok(());
+                }
                 self.on_voted(cluster, tx, *ballot, *dc, decision, lines)?;
                 Ok(())
             }
             Msg::Refused(_, ballot, dc, reason) => {
+                if !is_dc(cluster, *dc) {
+                    return Ok(());
+                }
                 self.on_refused(cluster, tx, *ballot, *dc, reason, out, lines)?;
                 Ok(())
             }
@@ -368,8 +475,7 @@ fn give_up(
 {
     let quorum = cluster.quorum();
     if quorum.holds(refusals.with(dc)) && !quorum.holds(refusals) {
-        let home = NodeId::Coord(cluster.home(tx));
-        out.push(Party::Node(home), &Msg::Abandon(tx))?;
+        abandon(cluster, tx, out)?;
     }
     Ok(())
 }

@@ -9,6 +9,9 @@ mod read;
 mod sends;
 mod slot;
 mod slots;
+#[cfg(test)]
+mod tests;
 
 pub use client::Client;
 pub use fault::ClientFault;
+pub use phase::Phase;

@@ -1,6 +1,6 @@
 // The phases of a client.
 ghost use Rattle.std.specs.Prelude.{◌≡◌};
-ghost use Rattle.rc_protocol.specs.Client.{is_open as is_open_lem, is_committing as is_committing_lem, is_proposed as is_proposed_lem, is_done as is_done_lem, reads_on as reads_on_lem};
+ghost use Rattle.rc_protocol.specs.Client.{is_open as is_open_lem, is_committing as is_committing_lem, is_proposed as is_proposed_lem, is_over as is_over_lem, reads_on as reads_on_lem};
 ghost use Rattle.rc_client.specs.Phases.{phase_of};
 
 /// How far a client is.
@@ -14,6 +14,8 @@ pub enum Phase {
     Proposed,
     /// It learned the outcome.
     Done,
+    /// It is gone.
+    Vanished,
 }
 
 impl Phase {
@@ -38,11 +40,11 @@ impl Phase {
         matches!(self, Phase::Proposed)
     }
 
-    /// Whether the client learned the outcome.
-    pub fn is_done(self) -> bool
-        ensures { result ≡ is_done_lem (phase_of self) }
+    /// Whether the client learned the outcome, or is gone.
+    pub fn is_over(self) -> bool
+        ensures { result ≡ is_over_lem (phase_of self) }
     {
-        matches!(self, Phase::Done)
+        matches!(self, Phase::Done | Phase::Vanished)
     }
 
     /// Whether grants still count.

@@ -1,14 +1,14 @@
 // A key that a transaction touched.
 ghost use Rattle.std.specs.Prelude.{◌≡◌, ◌++◌, [], IfOk, OnOk, None, Some, true};
 ghost use Rattle.std.specs.Option.{option_copied};
-ghost use Rattle.rc_protocol.specs.Client.{is_under_way as is_under_way_lem, is_unread as is_unread_lem, wants_grant as wants_grant_lem, grants_of, prints_of, with_grant, with_read, with_write, read_begun, entry_of, NotRead as IsUnread, UnderWay as IsUnderWay, Complete as IsComplete};
+ghost use Rattle.rc_protocol.specs.Client.{is_under_way as is_under_way_lem, is_unread as is_unread_lem, wants_grant as wants_grant_lem, granted_by as granted_by_lem, grants_of, prints_of, with_grant, with_read, with_write, read_begun, entry_of, NotRead as IsUnread, UnderWay as IsUnderWay, Complete as IsComplete};
 ghost use Rattle.rc_body.specs.Entries.{wears_out};
 ghost use Rattle.rc_client.specs.Reads.{read_of};
 
 use crate::grant::{Grant, Grants, copied_value};
 use crate::read::KeyRead;
 use rc_body::Entry;
-use rc_ids::{DcId, Key, NoMemory, Val, Version};
+use rc_ids::{DcId, DcSet, Key, NoMemory, Val, Version};
 use std::alloc::Global;
 use std::marker::Model;
 
@@ -104,6 +104,16 @@ impl Slot {
         match &self.read {
             KeyRead::UnderWay(_, grants) => !grants.granted_by().has(dc),
             _ => false,
+        }
+    }
+
+    /// The datacentres that granted the read that is under way.
+    pub fn granted_by(&self) -> DcSet
+        ensures { result ≡ granted_by_lem (grants_of self.now.read) }
+    {
+        match &self.read {
+            KeyRead::UnderWay(_, grants) => grants.granted_by(),
+            _ => DcSet::new(),
         }
     }
 

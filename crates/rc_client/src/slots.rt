@@ -1,10 +1,12 @@
 // The keys that a transaction touched.
-ghost use Rattle.std.specs.Prelude.{◌≡◌, ◌≤◌, ◌<◌, ◌&&◌, true, false, [], ◌∷◌, ◌++◌, length, None, Some, is_none, nat_le, IfOk, OnOk, IfSome, IfNone};
+ghost use Rattle.std.specs.Prelude.{◌≡◌, ◌≤◌, ◌<◌, ◌&&◌, true, false, [], ◌∷◌, ◌++◌, length, filter, not, None, Some, is_none, nat_le, IfOk, OnOk, OnErr, IfSome, IfNone};
+ghost use Rattle.std.specs.List.{flat_map};
 ghost use Rattle.std.specs.Option.{option_copied};
 ghost use Rattle.rc_ids.specs.Tables.{maybe};
-ghost use Rattle.rc_protocol.specs.Client.{Slot as SlotState, slot_of, slot_set, with_read, with_write, reads_begun, waits_for_read, unread_keys as unread_keys_lem, is_worn as is_worn_lem, body_of, NotRead as IsUnread, UnderWay as IsUnderWay};
+ghost use Rattle.rc_ids.specs.Texts.{same_key};
+ghost use Rattle.rc_protocol.specs.Client.{Slot as SlotState, slot_of, slot_set, with_read, with_write, reads_begun, waits_for_read, unread_keys as unread_keys_lem, waiting_keys as waiting_keys_lem, read_dropped, is_worn as is_worn_lem, body_of, NotRead as IsUnread, UnderWay as IsUnderWay};
 ghost use Rattle.rc_client.specs.Reads.{read_of};
-ghost use Rattle.rc_client.specs.Slots.{IsPlace, Differ, keys_of, waits_once_begun};
+ghost use Rattle.rc_client.specs.Slots.{IsPlace, Differ, keys_of, waits_once_begun, waits_at, written_at, IsSlots};
 
 use crate::read::KeyRead;
 use crate::slot::Slot;
@@ -54,6 +56,20 @@ fn would_wait(slots: &[Slot]) -> bool
         .any(|slot| slot.is_under_way() || slot.is_unread())
 }
 
+/// The keys whose read is under way, by bytes.
+fn waiting_among(alloc: Global, slots: &[Slot]) -> Result<BTreeSet<Key>, NoMemory>
+    ensures { IfOk result (λ keys. keys.keys ≡ waiting_keys_lem slots.now) }
+{
+    let Some((slot, rest)) = slots.split_first() else {
+        return Ok(BTreeSet::new(alloc));
+    };
+    let mut keys = waiting_among(alloc, rest)?;
+    if slot.is_under_way() {
+        keys.insert(slot.key().copy())?;
+    }
+    Ok(keys)
+}
+
 /// The keys that were not read, by bytes.
 fn unread_among(alloc: Global, slots: &[Slot]) -> Result<BTreeSet<Key>, NoMemory>
     ensures { IfOk result (λ keys. keys.keys ≡ unread_keys_lem slots.now) }
@@ -96,21 +112,23 @@ impl Slots {
         self.get(key).is_none() && Self::MOST <= self.items.len()
     }
 
-    /// Adds a key, which was not touched.
+    /// Adds a key, which was not touched, or leaves all as before.
     fn add(&mut self, slot: Slot) -> Result<(), NoMemory>
         requires absent { slot_of self.old slot.key ≡ None }
         requires room { length self.old < 32 }
-        ensures { OnOk result (self.new ≡ self.old ++ slot ∷ []) }
+        ensures ok { OnOk result (self.new ≡ self.old ++ slot ∷ []) }
+        ensures err { OnErr result (self.new ≡ self.old) }
     {
         self.items.push(slot)?;
         Ok(())
     }
 
-    /// Adds a key, which was not touched, whose read begins.
+    /// Adds a key, which was not touched, whose read begins, or leaves all as before.
     pub fn ask(&mut self, key: &Key) -> Result<(), NoMemory>
         requires absent { slot_of self.old key.now ≡ None }
         requires room { length self.old < 32 }
-        ensures { OnOk result (self.new ≡ self.old ++ record { key = key.now; write = None; read = IsUnderWay true [] } ∷ []) }
+        ensures err { OnErr result (self.new ≡ self.old) }
+        ensures ok { OnOk result (self.new ≡ self.old ++ record { key = key.now; write = None; read = IsUnderWay true [] } ∷ []) }
     {
         let slot = Slot::asked(*self.items.allocator(), key);
         self.add(slot)
@@ -138,6 +156,52 @@ impl Slots {
             let slot = &mut self.items[place];
             slot.set_read(read);
         }
+    }
+
+    /// Whether a read of the key is under way.
+    pub fn wait_for(&self, key: &Key) -> bool
+        ensures { result ≡ waits_at self.now key.now }
+    {
+        match self.get(key) {
+            Some(slot) => slot.is_under_way(),
+            None => false,
+        }
+    }
+
+    /// Whether the key is written.
+    fn is_written(&self, key: &Key) -> bool
+        ensures written { result ≡ written_at self.now key.now }
+        ensures slots { IsSlots self.now }
+    {
+        match place_of(self.items.as_slice(), key) {
+            Some(place) => self.items[place].write().is_some(),
+            None => false,
+        }
+    }
+
+    /// Removes the key.
+    fn remove(&mut self, key: &Key)
+        ensures { self.new ≡ filter (λ (s : SlotState). not (same_key s.key key.now)) self.old }
+    {
+        self.items.retain(|slot| slot.key() != key);
+    }
+
+    /// Drops the read of a key, and the key with it unless it is written.
+    pub fn drop_read(&mut self, key: &Key)
+        ensures { self.new ≡ flat_map (read_dropped key.now) self.old }
+    {
+        if self.is_written(key) {
+            self.set_read(key, KeyRead::NotRead);
+        } else {
+            self.remove(key);
+        }
+    }
+
+    /// The keys whose read is under way, by bytes.
+    pub fn waiting_keys(&self) -> Result<BTreeSet<Key>, NoMemory>
+        ensures { IfOk result (λ keys. keys.keys ≡ waiting_keys_lem self.now) }
+    {
+        waiting_among(*self.items.allocator(), self.items.as_slice())
     }
 
     /// Begins the reads of the keys that were not read.

@@ -1,5 +1,7 @@
 pub mod TableFacts
 pub mod CountFacts
-pub mod SendFacts
-pub mod OutcomeFacts
 pub mod VoteFacts
+pub mod ReplayFacts
+pub mod SendFacts
+pub mod CatchFacts
+pub mod HandledFacts

@@ -1,21 +1,22 @@
-//! The rows of a coordinator: the gather of two-phase commit, the acceptor, the tally of votes, and take-overs.
+//! The rows of a coordinator: the gather of two-phase commit, the acceptor, the tally of votes, take-overs, and catch-up.
 #![tactic(auto)]
 
-mod accepted;
 mod acceptor;
+mod catching;
 mod coord;
 mod counts;
-mod durable;
 mod fault;
 mod gather;
-mod outcomes;
 mod overtaking;
-mod promises;
+mod places;
 mod proposals;
+mod replay;
 mod rows;
 mod sending;
 mod takeover;
 mod takeovers;
+#[cfg(test)]
+mod tests;
 mod volatile;
 mod votes;
 mod voting;

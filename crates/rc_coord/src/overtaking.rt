@@ -1,31 +1,32 @@
 // The rows that open and drive a take-over.
-ghost use Rattle.std.specs.Prelude.{◌≡◌, IsTrue, IfOk, IsErrOf, true};
+ghost use Rattle.std.specs.Prelude.{◌≡◌, IsTrue, if◌then◌else◌, IfOk, IsErrOf};
 ghost use Rattle.std.specs.Option.{option_copied};
-ghost use Rattle.rc_ids.specs.Cluster.{is_dc};
-ghost use Rattle.rc_protocol.specs.Coordinator.{opens as opens_lem, takes_over as takes_over_lem, waiting_takeover as waiting_takeover_lem, goes_on as goes_on_lem, on_promise as on_promise_lem, on_abandon as on_abandon_lem};
-ghost use Rattle.rc_coord.specs.Rows.{Does};
+ghost use Rattle.rc_ids.specs.Cluster.{is_dc as is_dc_lem};
+ghost use Rattle.rc_protocol.specs.Coordinator.{coord_stays, opens as opens_lem, takes_over as takes_over_lem, waiting_takeover as waiting_takeover_lem, goes_on as goes_on_lem, on_promise as on_promise_lem, on_abandon as on_abandon_lem, do_take};
+ghost use Rattle.rc_coord.specs.Rows.{Does, Spares};
 ghost use Rattle.rc_coord.specs.declared.fault.CoordFault.TheVariants.{BallotsSpent};
 
 use crate::CoordFault;
-use crate::durable::Durable;
+use crate::counts::is_dc;
 use crate::sending::{propose, tell, to_all};
 use crate::takeover::TakeOver;
 use crate::volatile::Volatile;
 use rc_body::Decision;
 use rc_ids::{Ballot, Cluster, DcId, NoMemory, Party, TxId};
 use rc_msg::{Msg, Outbox};
-use rc_record::Record;
+use rc_record::{CoordDurable, Record};
 
 fn opens(
     cluster: &Cluster,
     volatile: &mut Volatile,
     tx: TxId,
+    is_eager: bool,
     ballot: Ballot,
     out: &mut Outbox,
 ) -> Result<Option<Record>, NoMemory>
-    ensures { IfOk result (λ written. Does (opens_lem cluster.now volatile.old tx ballot) written volatile.new out.old out.new) }
+    ensures { IfOk result (λ written. Does (opens_lem cluster.now volatile.old tx is_eager ballot) written volatile.new out.old out.new) }
 {
-    volatile.keep_takeover(tx, TakeOver::opening(ballot))?;
+    volatile.keep_takeover(tx, TakeOver::opening(ballot, is_eager))?;
     to_all(cluster, &Msg::Ask(tx, ballot), out)?;
     Ok(Some(Record::Promised(tx, ballot)))
 }
@@ -33,46 +34,69 @@ fn opens(
 fn takes_over(
     cluster: &Cluster,
     dc: DcId,
-    durable: &Durable,
+    durable: &CoordDurable,
     volatile: &mut Volatile,
     tx: TxId,
+    is_eager: bool,
     out: &mut Outbox,
 ) -> Result<Option<Record>, CoordFault>
-    requires { IsTrue (is_dc cluster.now dc) }
-    ensures ok { IfOk result (λ written. Does (takes_over_lem cluster.now dc durable.now volatile.old tx) written volatile.new out.old out.new) }
-    ensures spent { IsErrOf result BallotsSpent → (takes_over_lem cluster.now dc durable.now volatile.old tx).spent ≡ true }
+    requires { IsTrue (is_dc_lem cluster.now dc) }
+    ensures ok { IfOk result (λ written. Does (takes_over_lem cluster.now dc durable.now volatile.old tx is_eager) written volatile.new out.old out.new) }
+    ensures spent { IsErrOf result BallotsSpent → Spares (takes_over_lem cluster.now dc durable.now volatile.old tx is_eager) volatile.old volatile.new out.old out.new }
 {
-    match cluster.next_ballot(dc, durable.promise(tx)) {
-        Some(ballot) => Ok(opens(cluster, volatile, tx, ballot, out)?),
+    match cluster.next_ballot(dc, durable.promises.get(tx)) {
+        Some(ballot) => Ok(opens(cluster, volatile, tx, is_eager, ballot, out)?),
         None => Err(CoordFault::BallotsSpent),
     }
 }
 
-/// A client gives its transaction up.
+/// A client gives its transaction up: a patient take-over.
 pub fn on_abandon(
     cluster: &Cluster,
     dc: DcId,
-    durable: &Durable,
+    durable: &CoordDurable,
     volatile: &mut Volatile,
     tx: TxId,
     out: &mut Outbox,
 ) -> Result<Option<Record>, CoordFault>
-    requires { IsTrue (is_dc cluster.now dc) }
+    requires { IsTrue (is_dc_lem cluster.now dc) }
     ensures ok { IfOk result (λ written. Does (on_abandon_lem cluster.now dc durable.now volatile.old tx) written volatile.new out.old out.new) }
-    ensures spent { IsErrOf result BallotsSpent → (on_abandon_lem cluster.now dc durable.now volatile.old tx).spent ≡ true }
+    ensures spent { IsErrOf result BallotsSpent → Spares (on_abandon_lem cluster.now dc durable.now volatile.old tx) volatile.old volatile.new out.old out.new }
 {
-    match durable.outcome(tx) {
+    match durable.outcomes.get(tx) {
         Some(outcome) => {
             tell(Party::Client(tx), tx, outcome, out)?;
             Ok(None)
         }
-        None => takes_over(cluster, dc, durable, volatile, tx, out),
+        None => takes_over(cluster, dc, durable, volatile, tx, false, out),
+    }
+}
+
+/// The command to take a transaction over: an eager take-over.
+pub fn take(
+    cluster: &Cluster,
+    dc: DcId,
+    durable: &CoordDurable,
+    volatile: &mut Volatile,
+    tx: TxId,
+    out: &mut Outbox,
+) -> Result<Option<Record>, CoordFault>
+    requires { IsTrue (is_dc_lem cluster.now dc) }
+    ensures ok { IfOk result (λ written. Does (do_take cluster.now dc durable.now volatile.old tx) written volatile.new out.old out.new) }
+    ensures spent { IsErrOf result BallotsSpent → Spares (do_take cluster.now dc durable.now volatile.old tx) volatile.old volatile.new out.old out.new }
+{
+    match durable.outcomes.get(tx) {
+        Some(outcome) => {
+            tell(Party::Client(tx), tx, outcome, out)?;
+            Ok(None)
+        }
+        None => takes_over(cluster, dc, durable, volatile, tx, true, out),
     }
 }
 
 /// The open take-over that waits for the datacentre.
 fn waiting_takeover<'a>(
-    durable: &Durable,
+    durable: &CoordDurable,
     volatile: &'a Volatile,
     tx: TxId,
     ballot: Ballot,
@@ -80,7 +104,7 @@ fn waiting_takeover<'a>(
 ) -> Option<&'a TakeOver>
     ensures { option_copied result ≡ waiting_takeover_lem durable.now volatile.now tx ballot from }
 {
-    if durable.outcome(tx).is_some() {
+    if durable.outcomes.get(tx).is_some() {
         return None;
     }
     match volatile.takeover(tx) {
@@ -112,10 +136,10 @@ fn goes_on(
     }
 }
 
-/// A promise comes, with a report.
+/// A promise comes, with a report; one of a datacentre outside the world is ignored.
 pub fn on_promise(
     cluster: &Cluster,
-    durable: &Durable,
+    durable: &CoordDurable,
     volatile: &mut Volatile,
     tx: TxId,
     ballot: Ballot,
@@ -123,8 +147,11 @@ pub fn on_promise(
     report: &Option<(Ballot, Decision)>,
     out: &mut Outbox,
 ) -> Result<Option<Record>, NoMemory>
-    ensures { IfOk result (λ written. Does (on_promise_lem cluster.now durable.now volatile.old tx ballot from report.now) written volatile.new out.old out.new) }
+    ensures { IfOk result (λ written. Does (if is_dc_lem cluster.now from then on_promise_lem cluster.now durable.now volatile.old tx ballot from report.now else coord_stays volatile.old) written volatile.new out.old out.new) }
 {
+    if !is_dc(cluster, from) {
+        return Ok(None);
+    }
     match waiting_takeover(durable, volatile, tx, ballot, from) {
         Some(takeover) => {
             let takeover = takeover.hears(from, report)?;

@@ -1,18 +1,21 @@
 // The rows of a proposal and of the shards' answers.
-ghost use Rattle.std.specs.Prelude.{◌≡◌, ◌++◌, Some, IfOk};
+ghost use Rattle.std.specs.Prelude.{◌≡◌, ◌++◌, Some, if◌then◌else◌, IfOk};
 ghost use Rattle.std.specs.Option.{option_copied};
+ghost use Rattle.std.specs.Ordering.{nat_cmp};
+ghost use Rattle.rc_ids.specs.Tables.{found};
+ghost use Rattle.rc_ids.specs.Cluster.{is_shard as is_shard_lem};
 ghost use Rattle.rc_body.specs.declared.decision.Decision.TheVariants.{Commit};
-ghost use Rattle.rc_protocol.specs.Coordinator.{Gather as GatherOf, vote as vote_lem, accepts as accepts_lem, gathers_on as gathers_on_lem, takes_proposal as takes_proposal_lem, on_propose as on_propose_lem, waiting_gather as waiting_gather_lem, said_yes as said_yes_lem, on_prepared as on_prepared_lem, with_gather};
+ghost use Rattle.rc_protocol.specs.Coordinator.{Gather as GatherOf, vote as vote_lem, accepts as accepts_lem, gathers_on as gathers_on_lem, takes_proposal as takes_proposal_lem, on_propose as on_propose_lem, waiting_gather as waiting_gather_lem, said_yes as said_yes_lem, on_prepared as on_prepared_lem, with_gather, accepted_at as accepted_at_lem, coord_stays};
 ghost use Rattle.rc_coord.specs.Rows.{Does};
 
-use crate::durable::Durable;
+use crate::counts::is_shard;
 use crate::gather::Gather;
 use crate::sending::{prepares, proposer, refuse, tell, vote};
 use crate::volatile::Volatile;
 use rc_body::{Decision, Reason};
 use rc_ids::{Ballot, Cluster, DcId, NoMemory, ShardId, TxId};
 use rc_msg::Outbox;
-use rc_record::Record;
+use rc_record::{CoordDurable, Record};
 
 /// Accepts a decision: the vote is sent, and written by the caller.
 fn accepts(
@@ -85,11 +88,21 @@ fn takes_proposal(
     }
 }
 
+/// What was accepted for a transaction last, if that was at this ballot.
+fn accepted_at(durable: &CoordDurable, tx: TxId, ballot: Ballot) -> Option<&Decision>
+    ensures { option_copied result ≡ accepted_at_lem (found nat_cmp durable.now.accepted tx) ballot }
+{
+    match durable.accepted.get(tx) {
+        Some(accepted) if accepted.0 == ballot => Some(&accepted.1),
+        _ => None,
+    }
+}
+
 /// A proposal comes.
 pub fn on_propose(
     cluster: &Cluster,
     dc: DcId,
-    durable: &Durable,
+    durable: &CoordDurable,
     volatile: &mut Volatile,
     tx: TxId,
     ballot: Ballot,
@@ -98,17 +111,17 @@ pub fn on_propose(
 ) -> Result<Option<Record>, NoMemory>
     ensures { IfOk result (λ written. Does (on_propose_lem cluster.now dc durable.now volatile.old tx ballot decision.now) written volatile.new out.old out.new) }
 {
-    if let Some(outcome) = durable.outcome(tx) {
+    if let Some(outcome) = durable.outcomes.get(tx) {
         tell(proposer(cluster, tx, ballot), tx, outcome, out)?;
         return Ok(None);
     }
-    let promise = durable.promise(tx);
+    let promise = durable.promises.get(tx);
     if ballot < promise {
         let to = proposer(cluster, tx, ballot);
         refuse(to, dc, tx, ballot, Reason::Promised(promise), out)?;
         return Ok(None);
     }
-    match durable.accepted_at(tx, ballot) {
+    match accepted_at(durable, tx, ballot) {
         Some(old) => {
             vote(cluster, dc, tx, ballot, old, out)?;
             Ok(None)
@@ -120,14 +133,14 @@ pub fn on_propose(
 /// The gather that waits for the shard, of a transaction that is not decided.
 fn waiting_gather<'a>(
     cluster: &Cluster,
-    durable: &Durable,
+    durable: &CoordDurable,
     volatile: &'a Volatile,
     tx: TxId,
     shard: ShardId,
 ) -> Option<&'a Gather>
     ensures { option_copied result ≡ waiting_gather_lem cluster.now durable.now volatile.now tx shard }
 {
-    if durable.outcome(tx).is_some() {
+    if durable.outcomes.get(tx).is_some() {
         return None;
     }
     match volatile.gather(tx) {
@@ -139,7 +152,7 @@ fn waiting_gather<'a>(
 fn said_yes(
     cluster: &Cluster,
     dc: DcId,
-    durable: &Durable,
+    durable: &CoordDurable,
     volatile: &mut Volatile,
     tx: TxId,
     gather: Gather,
@@ -152,7 +165,7 @@ fn said_yes(
         return Ok(None);
     }
     let ballot = gather.ballot();
-    let promise = durable.promise(tx);
+    let promise = durable.promises.get(tx);
     if ballot < promise {
         volatile.keep_gather(tx, gather)?;
         let to = proposer(cluster, tx, ballot);
@@ -162,19 +175,22 @@ fn said_yes(
     accepts_gather(cluster, dc, volatile, tx, gather, out)
 }
 
-/// A shard says yes, or no with a reason.
+/// A shard says yes, or no with a reason; one outside the world is ignored.
 pub fn on_prepared(
     cluster: &Cluster,
     dc: DcId,
-    durable: &Durable,
+    durable: &CoordDurable,
     volatile: &mut Volatile,
     tx: TxId,
     shard: ShardId,
     reason: &Option<Reason>,
     out: &mut Outbox,
 ) -> Result<Option<Record>, NoMemory>
-    ensures { IfOk result (λ written. Does (on_prepared_lem cluster.now dc durable.now volatile.old tx shard reason.now) written volatile.new out.old out.new) }
+    ensures { IfOk result (λ written. Does (if is_shard_lem cluster.now shard then on_prepared_lem cluster.now dc durable.now volatile.old tx shard reason.now else coord_stays volatile.old) written volatile.new out.old out.new) }
 {
+    if !is_shard(cluster, shard) {
+        return Ok(None);
+    }
     let Some(gather) = waiting_gather(cluster, durable, volatile, tx, shard) else {
         return Ok(None);
     };

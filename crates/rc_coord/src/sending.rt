@@ -3,11 +3,11 @@ ghost use Rattle.std.specs.Prelude.{◌≡◌, ℕ, ◌≤◌, ◌++◌, OnOk};
 ghost use Rattle.rc_ids.specs.Cluster.{owner_of};
 ghost use Rattle.rc_msg.specs.declared.msg.Msg.TheVariants.{Refused, Decided, Propose, Finish, Prepare};
 ghost use Rattle.rc_protocol.specs.Messages.{coordinator as coordinator_lem, shard_server as shard_server_lem, client_of, one, to_each, to_all as to_all_lem};
-ghost use Rattle.rc_protocol.specs.Coordinator.{Gather as GatherOf, proposer as proposer_lem, vote as vote_lem, finish_to as finish_to_lem, finishes as finishes_lem, prepare_to as prepare_to_lem};
+ghost use Rattle.rc_protocol.specs.Coordinator.{Gather as GatherOf, proposer as proposer_lem, vote as vote_lem, finish_to as finish_to_lem, finishes as finishes_lem, finishes_all as finishes_all_lem, prepare_to as prepare_to_lem};
 
 use crate::counts::{dc_count, shard_count};
 use crate::gather::Gather;
-use rc_body::{Body, Decision, Reason};
+use rc_body::{Body, Decision, Page, Reason};
 use rc_ids::{Ballot, Cluster, DcId, NoMemory, NodeId, Party, ShardId, TxId};
 use rc_msg::{Msg, Outbox};
 
@@ -156,6 +156,22 @@ pub fn finishes(
 {
     for place in 0..shard_count(cluster) {
         finish_to(cluster, dc, tx, decision, ShardId(place + 1), out)?;
+    }
+    Ok(())
+}
+
+/// Tells the shards of this datacentre the outcomes of the page, in order.
+pub fn finishes_all(
+    cluster: &Cluster,
+    dc: DcId,
+    page: &Page,
+    out: &mut Outbox,
+) -> Result<(), NoMemory>
+    ensures { OnOk result (out.new ≡ out.old ++ finishes_all_lem cluster.now dc page.now) }
+{
+    for index in 0..page.len() {
+        let (tx, decision) = page.entry(index);
+        finishes(cluster, dc, tx, decision, out)?;
     }
     Ok(())
 }

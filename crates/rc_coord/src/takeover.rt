@@ -3,17 +3,19 @@ ghost use Rattle.std.specs.Prelude.{◌≡◌, ◌==◌, ◌&&◌, not, is_some,
 ghost use Rattle.std.specs.Option.{option_copied};
 ghost use Rattle.std.specs.Ordering.{nat_cmp};
 ghost use Rattle.rc_ids.specs.Tables.{member, added};
-ghost use Rattle.rc_protocol.specs.Coordinator.{opening, better as better_lem, hears as hears_lem, best_or_abort as best_or_abort_lem, chooses as chooses_lem, proposed as proposed_lem};
+ghost use Rattle.rc_protocol.specs.Coordinator.{opening, better as better_lem, hears as hears_lem, best_or_abort as best_or_abort_lem, chooses as chooses_lem, chooses_eagerly as chooses_eagerly_lem, chooses_patiently as chooses_patiently_lem, proposed as proposed_lem};
 
 use crate::counts::hears_all;
 use rc_body::Decision;
 use rc_ids::{Ballot, Cluster, DcId, DcSet, NoMemory};
 use std::marker::Model;
 
-/// A take-over: who promised its ballot, who of them reported nothing, and the report of the highest ballot.
+/// A take-over: who promised its ballot, who of them reported nothing, and the report of the highest ballot. An eager one
+/// proposes as soon as it may, a patient one aborts only what no quorum can have chosen before.
 #[derive(Drop)]
 pub struct TakeOver {
     ballot: Ballot,
+    is_eager: bool,
     has_proposed: bool,
     heard: DcSet,
     silent: DcSet,
@@ -25,7 +27,7 @@ impl Model for TakeOver {
 
     ghost Value = { TakeOverOf };
 
-    ghost view = { λ k. record { ballot = k.ballot; has_proposed = k.has_proposed; heard = k.heard; silent = k.silent; best = k.best } };
+    ghost view = { λ k. record { ballot = k.ballot; is_eager = k.is_eager; has_proposed = k.has_proposed; heard = k.heard; silent = k.silent; best = k.best } };
 }
 
 /// The better of two reports: of those at one ballot, the earlier one.
@@ -88,11 +90,12 @@ fn silent_after(silent: DcSet, from: DcId, report: &Option<(Ballot, Decision)>) 
 
 impl TakeOver {
     /// Nobody was heard yet.
-    pub fn opening(ballot: Ballot) -> TakeOver
-        ensures { result ≡ opening ballot }
+    pub fn opening(ballot: Ballot, is_eager: bool) -> TakeOver
+        ensures { result ≡ opening ballot is_eager }
     {
         TakeOver {
             ballot,
+            is_eager,
             has_proposed: false,
             heard: DcSet::new(),
             silent: DcSet::new(),
@@ -123,6 +126,7 @@ impl TakeOver {
     {
         Ok(TakeOver {
             ballot: self.ballot,
+            is_eager: self.is_eager,
             has_proposed: self.has_proposed,
             heard: self.heard.with(from),
             silent: silent_after(self.silent, from, report),
@@ -130,9 +134,19 @@ impl TakeOver {
         })
     }
 
-    /// What is to be proposed: abort once a quorum reported nothing, the best report once all were heard.
-    pub fn chooses(&self, cluster: &Cluster) -> Result<Option<Decision>, NoMemory>
-        ensures { IfOk result (λ d. d ≡ chooses_lem cluster.now self.now) }
+    /// What an eager one proposes: the best report, or abort where there is none, once a quorum was heard.
+    fn chooses_eagerly(&self, cluster: &Cluster) -> Result<Option<Decision>, NoMemory>
+        ensures { IfOk result (λ d. d ≡ chooses_eagerly_lem cluster.now self.now) }
+    {
+        if cluster.quorum().holds(self.heard) {
+            return Ok(Some(best_or_abort(&self.best)?));
+        }
+        Ok(None)
+    }
+
+    /// What a patient one proposes: abort once a quorum reported nothing, the best report once all were heard.
+    fn chooses_patiently(&self, cluster: &Cluster) -> Result<Option<Decision>, NoMemory>
+        ensures { IfOk result (λ d. d ≡ chooses_patiently_lem cluster.now self.now) }
     {
         if cluster.quorum().holds(self.silent) {
             return Ok(Some(Decision::Abort));
@@ -143,12 +157,24 @@ impl TakeOver {
         Ok(None)
     }
 
+    /// What is to be proposed, if it is time to.
+    pub fn chooses(&self, cluster: &Cluster) -> Result<Option<Decision>, NoMemory>
+        ensures { IfOk result (λ d. d ≡ chooses_lem cluster.now self.now) }
+    {
+        if self.is_eager {
+            self.chooses_eagerly(cluster)
+        } else {
+            self.chooses_patiently(cluster)
+        }
+    }
+
     /// The same after it proposed.
     pub fn proposed(self) -> TakeOver
         ensures { result ≡ proposed_lem self }
     {
         TakeOver {
             ballot: self.ballot,
+            is_eager: self.is_eager,
             has_proposed: true,
             heard: self.heard,
             silent: self.silent,

@@ -3,23 +3,25 @@ ghost use Rattle.std.specs.Prelude.{◌≡◌, OnOk, IfOk, max};
 ghost use Rattle.std.specs.Option.{option_copied};
 ghost use Rattle.std.specs.Ordering.{nat_cmp};
 ghost use Rattle.rc_ids.specs.Tables.{found};
-ghost use Rattle.rc_protocol.specs.Coordinator.{new_volatile, gather_at as gather_at_lem, with_gather, with_takeover, with_vote, forgotten, tally_of, is_decided_by};
+ghost use Rattle.rc_protocol.specs.Coordinator.{new_volatile, gather_at as gather_at_lem, with_gather, with_takeover, with_vote, forgotten, tally_of, is_decided_by, place_of, with_place, forgotten_all};
 
 use crate::gather::{Gather, Gathers};
+use crate::places::Places;
 use crate::takeover::TakeOver;
 use crate::takeovers::TakeOvers;
 use crate::votes::Votes;
-use rc_body::{Body, Decision};
+use rc_body::{Body, Decision, Page};
 use rc_ids::{Ballot, Cluster, DcId, NoMemory, TxId};
 use std::alloc::Global;
 use std::marker::Model;
 
-/// The gathers, take-overs and votes of a coordinator.
+/// The gathers, take-overs and votes of a coordinator, and how far it caught up with the others.
 #[derive(Drop)]
 pub struct Volatile {
     gathers: Gathers,
     takeovers: TakeOvers,
     votes: Votes,
+    places: Places,
 }
 
 impl Model for Volatile {
@@ -27,7 +29,7 @@ impl Model for Volatile {
 
     ghost Value = { CoordVolatile };
 
-    ghost view = { λ v. record { gathers = v.gathers; takeovers = v.takeovers; votes = v.votes } };
+    ghost view = { λ v. record { gathers = v.gathers; takeovers = v.takeovers; votes = v.votes; places = v.places } };
 }
 
 impl Volatile {
@@ -38,6 +40,7 @@ impl Volatile {
             gathers: Gathers::new(alloc),
             takeovers: TakeOvers::new(alloc),
             votes: Votes::new(alloc),
+            places: Places::new(alloc),
         }
     }
 
@@ -105,6 +108,19 @@ impl Volatile {
         self.votes.count(alloc, tx, dc, ballot, decision)
     }
 
+    /// How far the list of the datacentre was caught up with.
+    pub fn place(&self, dc: DcId) -> u32
+        ensures { result ≡ place_of self.now dc }
+    {
+        self.places.get(dc)
+    }
+
+    pub fn keep_place(&mut self, dc: DcId, place: u32) -> Result<(), NoMemory>
+        ensures { OnOk result (self.new ≡ with_place self.old dc place) }
+    {
+        self.places.put(dc, place)
+    }
+
     /// Forgets a transaction.
     pub fn forget(&mut self, tx: TxId)
         ensures { self.new ≡ forgotten self.old tx }
@@ -112,6 +128,16 @@ impl Volatile {
         self.gathers.remove(tx);
         self.takeovers.remove(tx);
         self.votes.remove(tx);
+    }
+
+    /// Forgets the transactions of the page.
+    pub fn forget_all(&mut self, page: &Page)
+        ensures { self.new ≡ forgotten_all self.old page.now }
+    {
+        for index in 0..page.len() {
+            let (tx, _) = page.entry(index);
+            self.forget(tx);
+        }
     }
 }
 

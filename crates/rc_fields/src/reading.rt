@@ -1,5 +1,6 @@
 // Reading fields.
 ghost use Rattle.std.specs.Prelude.{◌≡◌, ◌==◌, ℕ, List, length, Ok, Err, IfOk, IfErr};
+ghost use Rattle.rc_fields.specs.Formats.{IsBytes};
 ghost use Rattle.rc_fields.specs.Reading.{bytes_at, u8_at, u16_at, u32_at, u64_at, tag_at, length_at, counted_at};
 
 use crate::FieldFault;
@@ -19,6 +20,14 @@ impl<'a> Model for Fields<'a> {
     ghost view = { λ f. f.rest.now };
 }
 
+/// These bytes.
+fn whole(bytes: &[u8]) -> &[u8]
+    ensures same { result.now ≡ bytes.now }
+    ensures bytes { IsBytes result.now }
+{
+    bytes
+}
+
 impl<'a> Fields<'a> {
     /// A reader of these bytes.
     pub fn new(bytes: &'a [u8]) -> Fields<'a>
@@ -29,9 +38,10 @@ impl<'a> Fields<'a> {
 
     /// The bytes that are left.
     pub fn rest(&self) -> &'a [u8]
-        ensures { result.now ≡ self.now }
+        ensures rest { result.now ≡ self.now }
+        ensures bytes { IsBytes self.now }
     {
-        self.rest
+        whole(self.rest)
     }
 
     /// Whether no byte is left.

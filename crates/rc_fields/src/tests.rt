@@ -1,6 +1,7 @@
 // That calls answer where there is memory, and bytes that stand in the description of messages.
 use crate::*;
 use rc_ids::{Blob, Key, Val};
+use std::alloc::Global;
 use std::test::Fail;
 
 #[test]
@@ -37,4 +38,56 @@ fn faults(rt: HostRuntime) {
     assert!(rt; matches!(fields.counted(2), Err(FieldFault::Short)));
     assert!(rt; matches!(fields.u32(), Err(FieldFault::Short)));
     assert_eq!(rt; fields.rest(), [2, 7].as_slice());
+}
+
+/// Whether the bytes are a party, and are written so again.
+fn is_party(alloc: Global, bytes: &[u8]) -> Result<bool, Fail> {
+    let Some(party) = Fields::new(bytes).party() else {
+        return Ok(false);
+    };
+    let mut out = Blob::new(alloc);
+    put_party(&mut out, &party)?;
+    Ok(out.as_bytes() == bytes)
+}
+
+/// Whether the bytes are a node, and are written so again.
+fn is_node(alloc: Global, bytes: &[u8]) -> Result<bool, Fail> {
+    let Some(node) = Fields::new(bytes).node() else {
+        return Ok(false);
+    };
+    let mut out = Blob::new(alloc);
+    put_node(&mut out, &node)?;
+    Ok(out.as_bytes() == bytes)
+}
+
+#[test]
+fn parties(rt: HostRuntime) -> Result<(), Fail> {
+    let spelled: [&[u8]; 3] = [&[0, 7], &[1, 1, 8], &[2, 0, 0, 0, 1]];
+    for bytes in &spelled {
+        assert!(rt; is_party(rt.alloc(), *bytes)?);
+    }
+    let refused: [&[u8]; 6] = [
+        &[],
+        &[0, 0],
+        &[0, 8],
+        &[1, 1, 9],
+        &[2, 0, 0, 0, 0],
+        &[3, 1, 1],
+    ];
+    for bytes in &refused {
+        assert!(rt; !is_party(rt.alloc(), *bytes)?);
+    }
+    assert!(rt; is_node(rt.alloc(), &[1, 1, 2])?);
+    assert!(rt; !is_node(rt.alloc(), &[2, 1, 2])?);
+    Ok(())
+}
+
+#[test]
+fn numbers(rt: HostRuntime) {
+    assert!(rt; Fields::new(&[128, 0, 0, 0]).ballot().is_some());
+    assert!(rt; Fields::new(&[128, 0, 0, 1]).ballot().is_none());
+    assert!(rt; Fields::new(&[63, 0, 0, 0, 0, 0, 0, 0]).version().is_some());
+    assert!(rt; Fields::new(&[64, 0, 0, 0, 0, 0, 0, 0]).version().is_none());
+    assert_eq!(rt; Fields::new(&[0, 0, 0, 2]).place(), Some(2));
+    assert!(rt; Fields::new(&[8]).shard().is_some());
 }

@@ -81,6 +81,13 @@ impl Quorum {
         }
     }
 
+    /// The weights, of each datacentre in order.
+    pub fn weights(&self) -> &[u8]
+        ensures { result.now ≡ self.now }
+    {
+        &self.weights[..self.dcs]
+    }
+
     /// Whether the set is a quorum: its members weigh more than half of all datacentres.
     pub fn holds(&self, set: DcSet) -> bool
         ensures { result ≡ holds_lem self.now set }

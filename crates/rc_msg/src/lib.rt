@@ -1,8 +1,15 @@
-//! The messages between clients, coordinators and shard servers.
+//! The messages between clients, coordinators and shard servers, and their bytes.
 #![tactic(auto)]
 
+mod kinds;
 mod msg;
 mod outbox;
+mod reading;
+#[cfg(test)]
+mod tests;
+mod writing;
 
 pub use msg::{Envelope, Msg};
 pub use outbox::Outbox;
+pub use reading::{decode, message_laws};
+pub use writing::encode;

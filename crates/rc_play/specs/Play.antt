@@ -4,7 +4,7 @@ use Rattle.std.specs.List.{concat}
 use Rattle.rc_ports.specs.declared.status.Status.{Status}
 use Rattle.rc_ports.specs.declared.status.Status.TheVariants.{Done, BadWords, ReadFault, WriteFault, NoMemory, NotBuilt}
 use Rattle.rc_ports.specs.Streams.{grown}
-use Rattle.rc_protocol.specs.Text.{texts}
+use Rattle.rc_first_protocol.specs.Text.{texts}
 
 -- the run answers one of these
 abbrev pub IsAnswer : Status → Type 0

@@ -3,12 +3,12 @@ ghost use Rattle.std.specs.Prelude.{◌≡◌, ◌≢◌, ℕ, ◌<◌, ◌≤�
 ghost use Rattle.std.specs.List.{concat};
 ghost use Rattle.rc_ports.specs.Causes.{Rose};
 ghost use Rattle.rc_ports.specs.Streams.{grown};
-ghost use Rattle.rc_protocol.specs.Text.{texts as script_texts};
+ghost use Rattle.rc_first_protocol.specs.Text.{texts as script_texts};
 ghost use Rattle.rc_play.specs.Play.{IsAnswer, WroteAll, WrotePart};
 
+use rc_first_world::texts;
 use rc_ids::{Blob, NoMemory};
 use rc_ports::{Failed, ReadFault, Sink, Source, Status, Word, read_all, write_all};
-use rc_world::texts;
 use std::alloc::Global;
 
 /// The most bytes of a script.

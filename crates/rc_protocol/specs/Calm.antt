@@ -1,9 +1,9 @@
 -- Calm scripts: transactions one after another, each read and commit directly followed by its settle. One map answers them: for each
 -- key that was written its version and value. A commit sets the value of each key that it writes and raises its version by one.
-use Rattle.std.specs.Prelude.{ℕ, zero, suc, ◌+◌, ◌-◌, ◌*◌, Bool, true, false, cond, ◌&&◌, not, List, [], ◌∷◌, ◌++◌, filter, length, count_by, Option, Some, None, is_some, ◌==◌, if◌then◌else◌}
+use Rattle.std.specs.Prelude.{ℕ, zero, suc, ◌+◌, ◌-◌, ◌*◌, Bool, true, false, cond, ◌&&◌, not, List, [], ◌∷◌, ◌++◌, map, filter, length, count_by, Option, Some, None, is_some, ◌==◌, if◌then◌else◌}
 use Rattle.std.specs.List.{list_any}
-use Rattle.rc_ids.specs.Tables.{Table, put, maybe, up_to}
-use Rattle.rc_ids.specs.Texts.{key_cmp, same_key, gone}
+use Rattle.rc_ids.specs.Tables.{Table, maybe, up_to}
+use Rattle.rc_ids.specs.Texts.{same_key, gone}
 use Rattle.rc_ids.specs.Cluster.{Layout, is_quorum, shard_of}
 use Rattle.rc_ids.specs.declared.names.Outcome.TheVariants.{Commit as Committed}
 use Rattle.rc_report.specs.declared.line.Line.{Line}
@@ -11,8 +11,52 @@ use Rattle.rc_report.specs.declared.line.Line.TheVariants.{Read as ReadLine, Own
 use Rattle.rc_script.specs.declared.command.Command.{Command}
 use Rattle.rc_script.specs.declared.command.Command.TheVariants as commands
 use Rattle.rc_script.specs.declared.script.NumberedCommand.{NumberedCommand}
-use Rattle.rc_protocol.specs.Shard.{version_at, value_at}
+use Rattle.rc_body.specs.declared.entry.Entry.{Entry}
+use Rattle.rc_record.specs.ShardState.{version_at, value_at}
+use Rattle.rc_protocol.specs.OneMap.{body_applied}
 
+-- WHICH SCRIPTS ARE CALM
+abbrev pub is_settle : Command → Bool
+is_settle commands.Settle = true
+is_settle _ = false
+
+abbrev pub settles_next : List NumberedCommand → Bool
+settles_next [] = false
+settles_next (c ∷ cs) = is_settle c.command
+
+abbrev pub is_last : Option ℕ → ℕ → Bool
+is_last last t = maybe last false (λ u. u == t)
+
+-- the command may stand here, where this transaction was begun last, and is over or not
+abbrev pub may_stand : Option ℕ → Bool → List NumberedCommand → Command → Bool
+may_stand last is_over rest (commands.World dcs shards weights) = true
+may_stand last is_over rest (commands.Split k) = true
+may_stand last is_over rest (commands.Begin t) = is_over
+may_stand last is_over rest (commands.Read t k) = is_last last t && settles_next rest
+may_stand last is_over rest (commands.Write t k value) = is_last last t
+may_stand last is_over rest (commands.Delete t k) = is_last last t
+may_stand last is_over rest (commands.Commit t) = is_last last t && settles_next rest
+may_stand last is_over rest commands.Settle = true
+may_stand last is_over rest commands.Order = true
+may_stand last is_over rest _ = false
+
+abbrev pub last_begun : Option ℕ → Command → Option ℕ
+last_begun last (commands.Begin t) = Some t
+last_begun last _ = last
+
+abbrev pub over_after : Bool → Command → Bool
+over_after is_over (commands.Begin t) = false
+over_after is_over (commands.Commit t) = true
+over_after is_over _ = is_over
+
+unfoldable pub is_calm_from : Option ℕ → Bool → List NumberedCommand → Bool
+is_calm_from last is_over [] = true
+is_calm_from last is_over (c ∷ cs) = may_stand last is_over cs c.command && is_calm_from (last_begun last c.command) (over_after is_over c.command) cs
+
+abbrev pub is_calm : List NumberedCommand → Bool
+is_calm cs = is_calm_from None true cs
+
+-- WHAT ONE MAP PRINTS FOR THEM
 -- a key of the transaction at hand
 pub record Touched : Type 0 where
   pub key : List ℕ
@@ -79,15 +123,11 @@ abbrev pub after_write : Calm → List ℕ → List ℕ → Calm
 after_write m k value =
     with_due m (touched_set m.touched (record { key = k; is_read = maybe (touched_of m.touched k) false (λ x. x.is_read); write = Some value })) 0
 
-abbrev pub applied_one : Table (List ℕ) (ℕ × List ℕ) → Touched → Table (List ℕ) (ℕ × List ℕ)
-applied_one rows x = maybe x.write rows (λ value. put key_cmp rows x.key (version_at rows x.key + 1, value))
-
-abbrev pub applied_all : Table (List ℕ) (ℕ × List ℕ) → List Touched → Table (List ℕ) (ℕ × List ℕ)
-applied_all rows [] = rows
-applied_all rows (x ∷ xs) = applied_all (applied_one rows x) xs
+abbrev pub written : Touched → Entry
+written x = record { key = x.key; version = 0; write = x.write }
 
 abbrev pub after_commit : Layout → Calm → Calm
-after_commit c m = record { rows = applied_all m.rows m.touched; tx = m.tx; touched = []; committed = m.committed ++ m.tx ∷ []; due = commit_deliveries c m.touched }
+after_commit c m = record { rows = body_applied m.rows (map written m.touched); tx = m.tx; touched = []; committed = m.committed ++ m.tx ∷ []; due = commit_deliveries c m.touched }
 
 abbrev pub calm_after : Layout → Calm → Command → Calm
 calm_after c m (commands.Begin t) = record { rows = m.rows; tx = t; touched = []; committed = m.committed; due = 0 }

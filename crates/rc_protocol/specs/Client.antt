@@ -1,10 +1,10 @@
 -- The rows of a client, which buffers its writes, reads from a quorum and proposes its own commit at ballot 0.
 use Rattle.std.specs.Prelude.{ℕ, Bool, true, false, cond, not, ◌||◌, ◌&&◌, List, [], ◌∷◌, ◌++◌, map, Option, Some, None, nat_lt, ◌==◌, if◌then◌else◌}
 use Rattle.std.specs.Ordering.{nat_cmp}
-use Rattle.std.specs.List.{list_any}
+use Rattle.std.specs.List.{list_any, flat_map}
 use Rattle.rc_ids.specs.Tables.{Table, member, added, maybe}
 use Rattle.rc_ids.specs.Texts.{key_cmp, same_key}
-use Rattle.rc_ids.specs.Cluster.{Layout, is_quorum, home, shard_of}
+use Rattle.rc_ids.specs.Cluster.{Layout, is_dc, is_quorum, home, shard_of}
 use Rattle.rc_body.specs.Entries.{wears_out}
 use Rattle.rc_body.specs.Decisions.{outcome_of}
 use Rattle.rc_body.specs.declared.entry.Entry.{Entry}
@@ -19,7 +19,7 @@ use Rattle.rc_protocol.specs.Messages.{Sends, coordinator, shard_server, one, to
 use Rattle.rc_protocol.specs.Coordinator.{Standing, counted, is_decided_by}
 
 pub data Phase : Type 0 where
-  Open Committing Proposed Done : Phase
+  Open Committing Proposed Done Vanished : Phase
 
 -- what a datacentre's shard gave
 pub record Grant : Type 0 where
@@ -68,9 +68,19 @@ abbrev pub is_proposed : Phase → Bool
 is_proposed Proposed = true
 is_proposed _ = false
 
+abbrev pub is_vanished : Phase → Bool
+is_vanished Vanished = true
+is_vanished _ = false
+
 abbrev pub is_done : Phase → Bool
 is_done Done = true
 is_done _ = false
+
+-- the client has learned the outcome, or is gone
+abbrev pub is_over : Phase → Bool
+is_over Done = true
+is_over Vanished = true
+is_over _ = false
 
 abbrev pub in_phase : Client → Phase → Client
 in_phase x phase = record { phase = phase; slots = x.slots; refusals = x.refusals; votes = x.votes; outcome = x.outcome }
@@ -189,6 +199,20 @@ do_commit c t x =
     then client_says (in_phase (with_slots x (reads_begun x.slots)) Committing) (asks_all c t (unread_keys x.slots))
     else proposes c t x x
 
+-- a read that is under way is dropped, and its key with it unless it is written
+abbrev pub read_dropped : List ℕ → Slot → List Slot
+read_dropped k s = if same_key s.key k then maybe s.write [] (λ value. with_read s NotRead ∷ []) else s ∷ []
+
+abbrev pub drops_read : Layout → ℕ → Client → List ℕ → ClientAct
+drops_read c t x k = client_says (with_slots x (flat_map (read_dropped k) x.slots)) (to_each c.dcs (λ d. one (shard_server d (shard_of c k)) (ReadCancel t k)))
+
+abbrev pub do_cancel : Layout → ℕ → Client → List ℕ → ClientAct
+do_cancel c t x k = maybe (slot_of x.slots k) (client_stays x) (λ s. if is_under_way s.read then drops_read c t x k else client_stays x)
+
+-- the client is gone: it ignores all from now on
+abbrev pub do_vanish : Client → ClientAct
+do_vanish x = client_stays (in_phase x Vanished)
+
 -- A GRANT COMES
 abbrev pub granted_by : List Grant → List ℕ
 granted_by [] = []
@@ -260,11 +284,11 @@ with_vote x b d o = record { phase = x.phase; slots = x.slots; refusals = x.refu
 
 abbrev pub on_voted : Layout → ℕ → Client → ℕ → ℕ → Decision → ClientAct
 on_voted c t x b d o =
-    if is_done x.phase then client_stays x
+    if is_over x.phase then client_stays x
     else (if is_decided_by c x.votes b d o then learns t (with_vote x b d o) o else client_stays (with_vote x b d o))
 
 abbrev pub on_decided : ℕ → Client → Decision → ClientAct
-on_decided t x o = if is_done x.phase then client_stays x else learns t x o
+on_decided t x o = if is_over x.phase then client_stays x else learns t x o
 
 abbrev pub with_refusal : Client → ℕ → Client
 with_refusal x d = record { phase = x.phase; slots = x.slots; refusals = added nat_cmp x.refusals d; votes = x.votes; outcome = x.outcome }
@@ -284,10 +308,35 @@ on_refused c t x b d reason =
     then record { after = with_refusal x d; sends = gives_up c t x.refusals d; lines = RefusedLine t d reason ∷ []; worn = false }
     else client_stays x
 
--- a message that no row names is ignored
+-- WHAT A CLIENT WAITS FOR IS SENT AGAIN
+abbrev pub asks_rest : Layout → ℕ → Slot → Sends
+asks_rest c t s = to_each c.dcs (λ d. if member nat_cmp (granted_by (grants_of s.read)) d then [] else one (shard_server d (shard_of c s.key)) (ReadAsk t s.key))
+
+-- the keys whose read is under way, in key order
+abbrev pub waiting_keys : List Slot → List (List ℕ)
+waiting_keys [] = []
+waiting_keys (s ∷ ss) = if is_under_way s.read then added key_cmp (waiting_keys ss) s.key else waiting_keys ss
+
+abbrev pub asks_again : Layout → ℕ → List Slot → List (List ℕ) → Sends
+asks_again c t slots [] = []
+asks_again c t slots (k ∷ ks) = maybe (slot_of slots k) [] (asks_rest c t) ++ asks_again c t slots ks
+
+-- the same proposal, or the transaction is given up where the refusing datacentres are a quorum
+abbrev pub proposes_again : Layout → ℕ → Client → Sends
+proposes_again c t x =
+    if is_quorum c x.refusals
+    then one (coordinator (home c t)) (Abandon t)
+    else to_all c (Propose t 0 (Commit (body_of x.slots)))
+
+abbrev pub do_retry : Layout → ℕ → Client → ClientAct
+do_retry c t x =
+    if is_proposed x.phase then client_says x (proposes_again c t x)
+    else (if reads_on x.phase then client_says x (asks_again c t x.slots (waiting_keys x.slots)) else client_stays x)
+
+-- a message that no row names is ignored, and so is one that names a datacentre outside the world
 abbrev pub client_row : Layout → ℕ → Client → Msg → ClientAct
-client_row c t x (Granted u k d version value) = on_granted c t x k (record { dc = d; version = version; value = value })
-client_row c t x (Voted u b d o) = on_voted c t x b d o
-client_row c t x (Refused u b d reason) = on_refused c t x b d reason
+client_row c t x (Granted u k d version value) = if is_dc c d then on_granted c t x k (record { dc = d; version = version; value = value }) else client_stays x
+client_row c t x (Voted u b d o) = if is_dc c d then on_voted c t x b d o else client_stays x
+client_row c t x (Refused u b d reason) = if is_dc c d then on_refused c t x b d reason else client_stays x
 client_row c t x (Decided u o) = on_decided t x o
 client_row c t x _ = client_stays x

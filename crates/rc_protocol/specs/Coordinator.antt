@@ -1,11 +1,11 @@
--- The rows of a coordinator: the gather of two-phase commit, the acceptor of Paxos, the tally of votes, and patient take-overs.
+-- The rows of a coordinator: the gather of two-phase commit, the acceptor of Paxos, the tally of votes, take-overs and catch-up.
 -- Ballots per transaction, that a promise may be given again at its own ballot and that an accept raises the promise are this
 -- project's own.
-use Rattle.std.specs.Prelude.{ℕ, Bool, true, false, not, ◌&&◌, List, [], ◌∷◌, ◌++◌, Option, Some, None, nat_lt, ◌==◌, if◌then◌else◌, is_some, max}
+use Rattle.std.specs.Prelude.{ℕ, ◌+◌, ◌^◌, Bool, true, false, not, ◌&&◌, List, [], ◌∷◌, ◌++◌, length, take, drop, filter, Option, Some, None, nat_lt, ◌==◌, if◌then◌else◌, is_some, is_none, max}
 use Rattle.std.specs.Ordering.{nat_cmp}
 use Rattle.std.specs.List.{list_all}
 use Rattle.rc_ids.specs.Tables.{Table, found, put, without, member, added, maybe}
-use Rattle.rc_ids.specs.Cluster.{Layout, all_dcs, is_quorum, owner_of, next_ballot}
+use Rattle.rc_ids.specs.Cluster.{Layout, all_dcs, is_dc, is_shard, is_quorum, owner_of, next_ballot}
 use Rattle.rc_ids.specs.declared.names.Party.{Party}
 use Rattle.rc_body.specs.Bodies.{part, touches, touched}
 use Rattle.rc_body.specs.declared.entry.Entry.{Entry}
@@ -14,16 +14,12 @@ use Rattle.rc_body.specs.declared.decision.Decision.TheVariants.{Commit, Abort}
 use Rattle.rc_body.specs.declared.reason.Reason.{Reason}
 use Rattle.rc_body.specs.declared.reason.Reason.TheVariants.{Promised as PromisedHigher}
 use Rattle.rc_msg.specs.declared.msg.Msg.{Msg}
-use Rattle.rc_msg.specs.declared.msg.Msg.TheVariants.{Propose, Prepare, Prepared, Voted, Refused, Ask, Promise, Decided, Finish, Abandon}
+use Rattle.rc_msg.specs.declared.msg.Msg.TheVariants.{Propose, Prepare, Prepared, Voted, Refused, Ask, Promise, Decided, Finish, Abandon, CatchAsk, CatchPage}
 use Rattle.rc_record.specs.declared.record.Record.{Record}
 use Rattle.rc_record.specs.declared.record.Record.TheVariants.{Promised, Accepted, Decided as OutcomesDecided}
+pub use Rattle.rc_record.specs.declared.coord.CoordDurable.{CoordDurable}
+pub use Rattle.rc_record.specs.CoordState.{new_durable, promise_of, outcome_of, promise_raised, outcomes_joined, coord_applied}
 use Rattle.rc_protocol.specs.Messages.{Sends, coordinator, shard_server, client_of, one, to_each, to_all}
-
--- what a log gives back: of each transaction the promise and the accepted ballot with its decision; and the list of outcomes
-pub record CoordDurable : Type 0 where
-  pub promises : Table ℕ ℕ
-  pub accepted : Table ℕ (ℕ × Decision)
-  pub outcomes : List (ℕ × Decision)
 
 -- a transaction for which this datacentre's shards are asked, and those that said yes
 pub record Gather : Type 0 where
@@ -31,9 +27,11 @@ pub record Gather : Type 0 where
   pub body : List Entry
   pub yes : List ℕ
 
--- an open take-over: who promised its ballot, who of them reported nothing, and the report of the highest ballot
+-- an open take-over: who promised its ballot, who of them reported nothing, and the report of the highest ballot. An eager one proposes
+-- as soon as it may, a patient one aborts only what no quorum can have chosen before
 pub record TakeOver : Type 0 where
   pub ballot : ℕ
+  pub is_eager : Bool
   pub has_proposed : Bool
   pub heard : List ℕ
   pub silent : List ℕ
@@ -48,6 +46,7 @@ pub record CoordVolatile : Type 0 where
   pub gathers : Table ℕ Gather
   pub takeovers : Table ℕ TakeOver
   pub votes : Table ℕ (Table ℕ Standing)
+  pub places : Table ℕ ℕ  -- how far the list of each other coordinator was caught up with
 
 -- what a row does; where no ballot is left it does nothing, and says so
 pub record CoordAct : Type 0 where
@@ -56,35 +55,8 @@ pub record CoordAct : Type 0 where
   pub sends : Sends
   pub spent : Bool
 
-abbrev pub new_durable : CoordDurable
-new_durable = record { promises = []; accepted = []; outcomes = [] }
-
 abbrev pub new_volatile : CoordVolatile
-new_volatile = record { gathers = []; takeovers = []; votes = [] }
-
--- THE ACCEPTOR
-abbrev pub promise_of : Table ℕ ℕ → ℕ → ℕ
-promise_of promises t = maybe (found nat_cmp promises t) 0 (λ b. b)
-
--- the outcome in the list
-abbrev pub outcome_of : List (ℕ × Decision) → ℕ → Option Decision
-outcome_of outcomes t = found nat_cmp outcomes t
-
--- the promise is raised to the ballot, if it is lower
-abbrev pub promise_raised : Table ℕ ℕ → ℕ → ℕ → Table ℕ ℕ
-promise_raised promises t b = put nat_cmp promises t (max (promise_of promises t) b)
-
--- the entries whose transaction is not in the list yet join it
-abbrev pub outcomes_joined : List (ℕ × Decision) → List (ℕ × Decision) → List (ℕ × Decision)
-outcomes_joined list [] = list
-outcomes_joined list (e ∷ es) = outcomes_joined (maybe (outcome_of list e.0) (list ++ e ∷ []) (λ _. list)) es
-
--- what a record makes of the durable state; replay folds it over a log
-abbrev pub coord_applied : CoordDurable → Record → CoordDurable
-coord_applied s (Promised t b) = record { promises = promise_raised s.promises t b; accepted = s.accepted; outcomes = s.outcomes }
-coord_applied s (Accepted t b o) = record { promises = promise_raised s.promises t b; accepted = put nat_cmp s.accepted t (b, o); outcomes = s.outcomes }
-coord_applied s (OutcomesDecided page) = record { promises = s.promises; accepted = s.accepted; outcomes = outcomes_joined s.outcomes page }
-coord_applied s _ = s
+new_volatile = record { gathers = []; takeovers = []; votes = []; places = [] }
 
 -- ACTS
 abbrev pub coord_stays : CoordVolatile → CoordAct
@@ -112,35 +84,36 @@ abbrev pub finishes : Layout → ℕ → ℕ → Decision → Sends
 finishes c d t o = to_each c.shards (finish_to c d t o)
 
 abbrev pub forgotten : CoordVolatile → ℕ → CoordVolatile
-forgotten v t = record { gathers = without nat_cmp v.gathers t; takeovers = without nat_cmp v.takeovers t; votes = without nat_cmp v.votes t }
+forgotten v t = record { gathers = without nat_cmp v.gathers t; takeovers = without nat_cmp v.takeovers t; votes = without nat_cmp v.votes t; places = v.places }
 
 abbrev pub learns : Layout → ℕ → CoordVolatile → ℕ → Decision → CoordAct
 learns c d v t o = record { logs = Some (OutcomesDecided ((t, o) ∷ [])); after = forgotten v t; sends = finishes c d t o; spent = false }
 
 -- A TAKE-OVER OPENS
-abbrev pub opening : ℕ → TakeOver
-opening b = record { ballot = b; has_proposed = false; heard = []; silent = []; best = None }
+abbrev pub opening : ℕ → Bool → TakeOver
+opening b is_eager = record { ballot = b; is_eager = is_eager; has_proposed = false; heard = []; silent = []; best = None }
 
-abbrev pub opens : Layout → CoordVolatile → ℕ → ℕ → CoordAct
-opens c v t b = record {
+abbrev pub opens : Layout → CoordVolatile → ℕ → Bool → ℕ → CoordAct
+opens c v t is_eager b = record {
   logs = Some (Promised t b);
-  after = record { gathers = v.gathers; takeovers = put nat_cmp v.takeovers t (opening b); votes = v.votes };
+  after = record { gathers = v.gathers; takeovers = put nat_cmp v.takeovers t (opening b is_eager); votes = v.votes; places = v.places };
   sends = to_all c (Ask t b);
   spent = false;
 }
 
-abbrev pub takes_over : Layout → ℕ → CoordDurable → CoordVolatile → ℕ → CoordAct
-takes_over c d s v t =
+-- its ballot is the least own one above the promise
+abbrev pub takes_over : Layout → ℕ → CoordDurable → CoordVolatile → ℕ → Bool → CoordAct
+takes_over c d s v t is_eager =
     maybe (next_ballot c d (promise_of s.promises t))
     (record { logs = None; after = v; sends = []; spent = true })
-    (λ b. opens c v t b)
+    (λ b. opens c v t is_eager b)
 
 -- A PROPOSAL COMES
 abbrev pub has_all : Layout → Gather → Bool
 has_all c g = list_all (member nat_cmp g.yes) (touched c g.body)
 
 abbrev pub with_gather : CoordVolatile → ℕ → Gather → CoordVolatile
-with_gather v t g = record { gathers = put nat_cmp v.gathers t g; takeovers = v.takeovers; votes = v.votes }
+with_gather v t g = record { gathers = put nat_cmp v.gathers t g; takeovers = v.takeovers; votes = v.votes; places = v.places }
 
 -- the shard is asked, where it is touched and has not said yes
 abbrev pub prepare_to : Layout → ℕ → ℕ → Gather → ℕ → Sends
@@ -232,6 +205,7 @@ better (Some old) (Some report) = if nat_lt old.0 report.0 then Some report else
 abbrev pub hears : TakeOver → ℕ → Option (ℕ × Decision) → TakeOver
 hears k from report = record {
   ballot = k.ballot;
+  is_eager = k.is_eager;
   has_proposed = k.has_proposed;
   heard = added nat_cmp k.heard from;
   silent = if is_some report then k.silent else added nat_cmp k.silent from;
@@ -242,11 +216,18 @@ abbrev pub best_or_abort : Option (ℕ × Decision) → Decision
 best_or_abort None = Abort
 best_or_abort (Some report) = report.1
 
--- a patient take-over proposes abort once a quorum reported nothing, and what was reported at the highest ballot once all are heard
-abbrev pub chooses : Layout → TakeOver → Option Decision
-chooses c k =
+-- an eager take-over proposes what was reported at the highest ballot, else abort, once a quorum is heard
+abbrev pub chooses_eagerly : Layout → TakeOver → Option Decision
+chooses_eagerly c k = if is_quorum c k.heard then Some (best_or_abort k.best) else None
+
+-- a patient one proposes abort once a quorum reported nothing, and what was reported at the highest ballot once all are heard
+abbrev pub chooses_patiently : Layout → TakeOver → Option Decision
+chooses_patiently c k =
     if is_quorum c k.silent then Some Abort
     else (if list_all (member nat_cmp k.heard) (all_dcs c) then Some (best_or_abort k.best) else None)
+
+abbrev pub chooses : Layout → TakeOver → Option Decision
+chooses c k = if k.is_eager then chooses_eagerly c k else chooses_patiently c k
 
 -- the open take-over that still waits for this datacentre
 abbrev pub waiting_takeover : CoordDurable → CoordVolatile → ℕ → ℕ → ℕ → Option TakeOver
@@ -256,10 +237,10 @@ waiting_takeover s v t b from =
     (λ _. None)
 
 abbrev pub with_takeover : CoordVolatile → ℕ → TakeOver → CoordVolatile
-with_takeover v t k = record { gathers = v.gathers; takeovers = put nat_cmp v.takeovers t k; votes = v.votes }
+with_takeover v t k = record { gathers = v.gathers; takeovers = put nat_cmp v.takeovers t k; votes = v.votes; places = v.places }
 
 abbrev pub proposed : TakeOver → TakeOver
-proposed k = record { ballot = k.ballot; has_proposed = true; heard = k.heard; silent = k.silent; best = k.best }
+proposed k = record { ballot = k.ballot; is_eager = k.is_eager; has_proposed = true; heard = k.heard; silent = k.silent; best = k.best }
 
 abbrev pub goes_on : Layout → CoordVolatile → ℕ → TakeOver → CoordAct
 goes_on c v t k = maybe (chooses c k) (coord_stays (with_takeover v t k)) (λ o. coord_says (with_takeover v t (proposed k)) (to_all c (Propose t k.ballot o)))
@@ -294,7 +275,7 @@ abbrev pub tally_of : CoordVolatile → ℕ → Table ℕ Standing
 tally_of v t = maybe (found nat_cmp v.votes t) [] (λ tally. tally)
 
 abbrev pub with_vote : CoordVolatile → ℕ → ℕ → ℕ → Decision → CoordVolatile
-with_vote v t b from o = record { gathers = v.gathers; takeovers = v.takeovers; votes = put nat_cmp v.votes t (counted (tally_of v t) b from o) }
+with_vote v t b from o = record { gathers = v.gathers; takeovers = v.takeovers; votes = put nat_cmp v.votes t (counted (tally_of v t) b from o); places = v.places }
 
 abbrev pub on_voted : Layout → ℕ → CoordDurable → CoordVolatile → ℕ → ℕ → ℕ → Decision → CoordAct
 on_voted c d s v t b from o =
@@ -305,16 +286,77 @@ on_voted c d s v t b from o =
 abbrev pub on_decided : Layout → ℕ → CoordDurable → CoordVolatile → ℕ → Decision → CoordAct
 on_decided c d s v t o = maybe (outcome_of s.outcomes t) (learns c d v t o) (λ _. coord_stays v)
 
+-- a client gives its transaction up: a patient take-over
 abbrev pub on_abandon : Layout → ℕ → CoordDurable → CoordVolatile → ℕ → CoordAct
-on_abandon c d s v t = maybe (outcome_of s.outcomes t) (takes_over c d s v t) (λ outcome. coord_says v (one (client_of t) (Decided t outcome)))
+on_abandon c d s v t = maybe (outcome_of s.outcomes t) (takes_over c d s v t false) (λ outcome. coord_says v (one (client_of t) (Decided t outcome)))
 
--- a message that no row names is ignored
-abbrev pub coord_row : Layout → ℕ → CoordDurable → CoordVolatile → Msg → CoordAct
-coord_row c d s v (Propose t b o) = on_propose c d s v t b o
-coord_row c d s v (Prepared t sh reason) = on_prepared c d s v t sh reason
-coord_row c d s v (Ask t b) = on_ask c d s v t b
-coord_row c d s v (Promise t b from report) = on_promise c s v t b from report
-coord_row c d s v (Voted t b from o) = on_voted c d s v t b from o
-coord_row c d s v (Decided t o) = on_decided c d s v t o
-coord_row c d s v (Abandon t) = on_abandon c d s v t
-coord_row c d s v _ = coord_stays v
+-- the command to take a transaction over: an eager take-over
+abbrev pub do_take : Layout → ℕ → CoordDurable → CoordVolatile → ℕ → CoordAct
+do_take c d s v t = maybe (outcome_of s.outcomes t) (takes_over c d s v t true) (λ outcome. coord_says v (one (client_of t) (Decided t outcome)))
+
+-- CATCH-UP, by pages of at most 64 entries of a list of outcomes
+abbrev pub most_entries : ℕ
+most_entries = 64
+
+abbrev pub page_from : List (ℕ × Decision) → ℕ → List (ℕ × Decision)
+page_from outcomes place = take most_entries (drop place outcomes)
+
+abbrev pub on_catch_ask : ℕ → CoordDurable → CoordVolatile → Party → ℕ → CoordAct
+on_catch_ask d s v asker place = coord_says v (one asker (CatchPage d place (page_from s.outcomes place)))
+
+-- how far the list of d was caught up with
+abbrev pub place_of : CoordVolatile → ℕ → ℕ
+place_of v d = maybe (found nat_cmp v.places d) 0 (λ place. place)
+
+-- the page of another coordinator stands at its catch-up place, and the place after it is a number of four bytes
+abbrev pub is_next_page : ℕ → CoordVolatile → ℕ → ℕ → List (ℕ × Decision) → Bool
+is_next_page d v from place page = not (from == d) && ((place == place_of v from) && nat_lt (place + length page) (2 ^ 32))
+
+abbrev pub with_place : CoordVolatile → ℕ → ℕ → CoordVolatile
+with_place v from place = record { gathers = v.gathers; takeovers = v.takeovers; votes = v.votes; places = put nat_cmp v.places from place }
+
+abbrev pub undecided : List (ℕ × Decision) → List (ℕ × Decision) → List (ℕ × Decision)
+undecided outcomes page = filter (λ (e : ℕ × Decision). is_none (outcome_of outcomes e.0)) page
+
+abbrev pub forgotten_all : CoordVolatile → List (ℕ × Decision) → CoordVolatile
+forgotten_all v [] = v
+forgotten_all v (e ∷ es) = forgotten_all (forgotten v e.0) es
+
+abbrev pub finishes_all : Layout → ℕ → List (ℕ × Decision) → Sends
+finishes_all c d [] = []
+finishes_all c d (e ∷ es) = finishes c d e.0 e.1 ++ finishes_all c d es
+
+-- one record for all that is new, where anything is
+abbrev pub outcomes_record : List (ℕ × Decision) → Option Record
+outcomes_record [] = None
+outcomes_record (e ∷ es) = Some (OutcomesDecided (e ∷ es))
+
+-- after a full page the next one is asked for
+abbrev pub asks_next : Party → ℕ → List (ℕ × Decision) → Sends
+asks_next owner place page = if length page == most_entries then one owner (CatchAsk (place + length page)) else []
+
+abbrev pub takes_page : Layout → ℕ → CoordVolatile → List (ℕ × Decision) → Sends → CoordAct
+takes_page c d v new more = record { logs = outcomes_record new; after = forgotten_all v new; sends = finishes_all c d new ++ more; spent = false }
+
+abbrev pub on_catch_page : Layout → ℕ → CoordDurable → CoordVolatile → ℕ → ℕ → List (ℕ × Decision) → CoordAct
+on_catch_page c d s v from place page =
+    if is_next_page d v from place page
+    then takes_page c d (with_place v from (place + length page)) (undecided s.outcomes page) (asks_next (coordinator from) place page)
+    else coord_stays v
+
+-- the command to catch up, and what a restart begins with: each other coordinator is asked, in order
+abbrev pub do_catch : Layout → ℕ → CoordVolatile → CoordAct
+do_catch c d v = coord_says v (to_each c.dcs (λ e. if e == d then [] else one (coordinator e) (CatchAsk (place_of v e))))
+
+-- a message that no row names is ignored, and so is one that names a datacentre or shard outside the world
+abbrev pub coord_row : Layout → ℕ → CoordDurable → CoordVolatile → Party → Msg → CoordAct
+coord_row c d s v from (Propose t b o) = on_propose c d s v t b o
+coord_row c d s v from (Prepared t sh reason) = if is_shard c sh then on_prepared c d s v t sh reason else coord_stays v
+coord_row c d s v from (Ask t b) = on_ask c d s v t b
+coord_row c d s v from (Promise t b e report) = if is_dc c e then on_promise c s v t b e report else coord_stays v
+coord_row c d s v from (Voted t b e o) = if is_dc c e then on_voted c d s v t b e o else coord_stays v
+coord_row c d s v from (Decided t o) = on_decided c d s v t o
+coord_row c d s v from (Abandon t) = on_abandon c d s v t
+coord_row c d s v from (CatchAsk place) = on_catch_ask d s v from place
+coord_row c d s v from (CatchPage e place page) = if is_dc c e then on_catch_page c d s v e place page else coord_stays v
+coord_row c d s v from _ = coord_stays v

@@ -1,7 +1,19 @@
+-- What a reader has to believe: rows, worlds, runs, texts, and what is claimed of them.
 pub mod Messages
 pub mod Shard
 pub mod Coordinator
 pub mod Client
+pub mod Nodes
+pub mod Votes
 pub mod World
+pub mod Refusals
+pub mod Devices
+pub mod OneMap
+pub mod Session
+pub mod Script
+pub mod Stored
 pub mod Text
 pub mod Calm
+pub mod Outcomes
+pub mod Whole
+pub mod Quiet

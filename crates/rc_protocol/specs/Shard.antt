@@ -1,13 +1,12 @@
 -- The rows of a shard server: two-phase commit with shared and exclusive locks inside a datacentre. The lock rules, the version
 -- test and the marks of lost locks are this project's own.
-use Rattle.std.specs.Prelude.{ℕ, ◌+◌, Bool, cond, not, ◌||◌, ◌&&◌, List, [], ◌∷◌, ◌++◌, map, filter, Option, Some, None, nat_lt, ◌==◌, if◌then◌else◌, is_some}
+use Rattle.std.specs.Prelude.{ℕ, ◌+◌, ◌^◌, Bool, true, cond, not, ◌||◌, ◌&&◌, List, [], ◌∷◌, ◌++◌, map, filter, length, Option, Some, None, nat_lt, ◌==◌, if◌then◌else◌, is_some, is_none}
 use Rattle.std.specs.declared.cmp.Ordering.{Ordering}
 use Rattle.std.specs.Ordering.{nat_cmp, is_eq, ordering_then}
-use Rattle.rc_ids.specs.Tables.{Table, found, put, without, member, added, maybe}
+use Rattle.rc_ids.specs.Tables.{Table, found, member, added, maybe}
 use Rattle.rc_ids.specs.Texts.{key_cmp}
-use Rattle.rc_ids.specs.declared.names.Outcome.{Outcome}
-use Rattle.rc_ids.specs.declared.names.Outcome.TheVariants.{Commit as Committed, Abort as Aborted}
-use Rattle.rc_body.specs.Bodies.{has_key, writes}
+use Rattle.rc_ids.specs.Cluster.{Layout, is_dc}
+use Rattle.rc_body.specs.Bodies.{has_key, writes, part, touches}
 use Rattle.rc_body.specs.declared.entry.Entry.{Entry}
 use Rattle.rc_body.specs.declared.decision.Decision.{Decision}
 use Rattle.rc_body.specs.declared.decision.Decision.TheVariants.{Commit, Abort}
@@ -15,9 +14,11 @@ use Rattle.rc_body.specs.declared.reason.Reason.{Reason}
 use Rattle.rc_body.specs.declared.reason.Reason.TheVariants.{Locked, Lost, Stale}
 use Rattle.rc_ids.specs.declared.names.Party.{Party}
 use Rattle.rc_msg.specs.declared.msg.Msg.{Msg}
-use Rattle.rc_msg.specs.declared.msg.Msg.TheVariants.{ReadAsk, ReadCancel, Granted, Prepare, Prepared, Finish}
+use Rattle.rc_msg.specs.declared.msg.Msg.TheVariants.{ReadAsk, ReadCancel, Granted, Prepare, Prepared, Finish, CatchAsk, CatchPage}
 use Rattle.rc_record.specs.declared.record.Record.{Record}
 use Rattle.rc_record.specs.declared.record.Record.TheVariants.{Prepared as PartPrepared, Finished}
+pub use Rattle.rc_record.specs.declared.shard.ShardDurable.{ShardDurable}
+pub use Rattle.rc_record.specs.ShardState.{new_durable, version_at, value_at, set_row, set_rows, settled, settled_new, settled_all, shard_applied}
 use Rattle.rc_protocol.specs.Messages.{Sends, coordinator, client_of, one}
 
 -- a key that a transaction locked, lost or waits for
@@ -27,17 +28,13 @@ Mark = List ℕ × ℕ
 abbrev pub mark_cmp : Mark → Mark → Ordering
 mark_cmp a b = ordering_then (key_cmp a.0 b.0) (nat_cmp a.1 b.1)
 
--- what a log gives back: for each key its version and value, the prepared part of each transaction, and what is finished
-pub record ShardDurable : Type 0 where
-  pub rows : Table (List ℕ) (ℕ × List ℕ)
-  pub parts : Table ℕ (List Entry)
-  pub finished : Table ℕ Outcome
-
--- what a stop loses: plain read locks, marks of those that a prepare took away, and reads that wait, in order of arrival
+-- what a stop loses: plain read locks, marks of those that a prepare took away, reads that wait, in order of arrival, and how far the
+-- coordinator's list of outcomes was caught up with
 pub record ShardVolatile : Type 0 where
   pub plain : List Mark
   pub lost : List Mark
   pub waiting : List Mark
+  pub place : ℕ
 
 -- what a row does: at most one record, the volatile state after it, and the messages sent
 pub record ShardAct : Type 0 where
@@ -45,18 +42,8 @@ pub record ShardAct : Type 0 where
   pub after : ShardVolatile
   pub sends : Sends
 
-abbrev pub new_durable : ShardDurable
-new_durable = record { rows = []; parts = []; finished = [] }
-
 abbrev pub new_volatile : ShardVolatile
-new_volatile = record { plain = []; lost = []; waiting = [] }
-
--- ROWS OF KEYS
-abbrev pub version_at : Table (List ℕ) (ℕ × List ℕ) → List ℕ → ℕ
-version_at rows k = maybe (found key_cmp rows k) 0 (λ row. row.0)
-
-abbrev pub value_at : Table (List ℕ) (ℕ × List ℕ) → List ℕ → Option (List ℕ)
-value_at rows k = maybe (found key_cmp rows k) None (λ row. Some row.1)
+new_volatile = record { plain = []; lost = []; waiting = []; place = 0 }
 
 -- LOCKS
 -- the least transaction whose prepared part passes the test
@@ -93,38 +80,12 @@ test s v t part =
     (maybe (first_reason (lost_by v.lost t) part) (first_reason (stale s.rows) part) Some)
     Some
 
--- SETTLING: on commit each written key gets its value where its version here is lower
-abbrev pub set_row : Table (List ℕ) (ℕ × List ℕ) → Entry → Table (List ℕ) (ℕ × List ℕ)
-set_row rows e = maybe e.write rows (λ x. if nat_lt (version_at rows e.key) (e.version + 1) then put key_cmp rows e.key (e.version + 1, x) else rows)
-
-abbrev pub set_rows : Table (List ℕ) (ℕ × List ℕ) → List Entry → Table (List ℕ) (ℕ × List ℕ)
-set_rows rows [] = rows
-set_rows rows (e ∷ es) = set_rows (set_row rows e) es
-
-abbrev pub settled : ShardDurable → ℕ → Decision → ShardDurable
-settled s t Abort = record { rows = s.rows; parts = without nat_cmp s.parts t; finished = put nat_cmp s.finished t Aborted }
-settled s t (Commit part) = record { rows = set_rows s.rows part; parts = without nat_cmp s.parts t; finished = put nat_cmp s.finished t Committed }
-
--- an entry of a page settles its transaction, if that is not finished yet
-abbrev pub settled_new : ShardDurable → (ℕ × Decision) → ShardDurable
-settled_new s e = maybe (found nat_cmp s.finished e.0) (settled s e.0 e.1) (λ _. s)
-
-abbrev pub settled_all : ShardDurable → List (ℕ × Decision) → ShardDurable
-settled_all s [] = s
-settled_all s (e ∷ es) = settled_all (settled_new s e) es
-
--- what a record makes of the durable state; replay folds it over a log
-abbrev pub shard_applied : ShardDurable → Record → ShardDurable
-shard_applied s (PartPrepared t part) = record { rows = s.rows; parts = put nat_cmp s.parts t part; finished = s.finished }
-shard_applied s (Finished page) = settled_all s page
-shard_applied s _ = s
-
 -- nothing of t among the marks
 abbrev pub cleared : List Mark → ℕ → List Mark
 cleared marks t = filter (λ (m : Mark). not (m.1 == t)) marks
 
 abbrev pub forgotten : ShardVolatile → ℕ → ShardVolatile
-forgotten v t = record { plain = cleared v.plain t; lost = cleared v.lost t; waiting = cleared v.waiting t }
+forgotten v t = record { plain = cleared v.plain t; lost = cleared v.lost t; waiting = cleared v.waiting t; place = v.place }
 
 abbrev pub forgotten_all : ShardVolatile → List (ℕ × Decision) → ShardVolatile
 forgotten_all v [] = v
@@ -147,6 +108,7 @@ granted s v = record {
   plain = added_all v.plain (filter (is_free s.parts) v.waiting);
   lost = v.lost;
   waiting = filter (λ (m : Mark). not (is_free s.parts m)) v.waiting;
+  place = v.place;
 }
 
 abbrev pub grants : ℕ → ShardDurable → ShardVolatile → Sends
@@ -160,10 +122,10 @@ abbrev pub shard_says : ShardVolatile → Sends → ShardAct
 shard_says v ms = record { logs = None; after = v; sends = ms }
 
 abbrev pub waits : ShardVolatile → Mark → ShardVolatile
-waits v m = record { plain = v.plain; lost = v.lost; waiting = if member mark_cmp v.waiting m then v.waiting else v.waiting ++ m ∷ [] }
+waits v m = record { plain = v.plain; lost = v.lost; waiting = if member mark_cmp v.waiting m then v.waiting else v.waiting ++ m ∷ []; place = v.place }
 
 abbrev pub locks_plain : ShardVolatile → Mark → ShardVolatile
-locks_plain v m = record { plain = added mark_cmp v.plain m; lost = v.lost; waiting = v.waiting }
+locks_plain v m = record { plain = added mark_cmp v.plain m; lost = v.lost; waiting = v.waiting; place = v.place }
 
 -- t is finished or prepared here, or lost the key
 abbrev pub ignores_ask : ShardDurable → ShardVolatile → ℕ → List ℕ → Bool
@@ -178,7 +140,7 @@ abbrev pub is_other : Mark → Mark → Bool
 is_other m n = not (is_eq (mark_cmp m n))
 
 abbrev pub on_read_cancel : ShardVolatile → ℕ → List ℕ → ShardAct
-on_read_cancel v t k = shard_stays (record { plain = filter (is_other (k, t)) v.plain; lost = v.lost; waiting = filter (is_other (k, t)) v.waiting })
+on_read_cancel v t k = shard_stays (record { plain = filter (is_other (k, t)) v.plain; lost = v.lost; waiting = filter (is_other (k, t)) v.waiting; place = v.place })
 
 -- the prepare of t takes this plain lock away
 abbrev pub is_taken : ℕ → List Entry → Mark → Bool
@@ -189,6 +151,7 @@ preempted v t part = record {
   plain = cleared (filter (λ (m : Mark). not (is_taken t part m)) v.plain) t;
   lost = added_all v.lost (filter (is_taken t part) v.plain);
   waiting = cleared v.waiting t;
+  place = v.place;
 }
 
 abbrev pub answers : ℕ → ℕ → ℕ → Option Reason → Sends
@@ -212,10 +175,54 @@ finishes d s v page = record {
 abbrev pub on_finish : ℕ → ShardDurable → ShardVolatile → ℕ → Decision → ShardAct
 on_finish d s v t o = if is_some (found nat_cmp s.finished t) then shard_stays v else finishes d s v ((t, o) ∷ [])
 
--- a message that no row names is ignored
-abbrev pub shard_row : ℕ → ℕ → ShardDurable → ShardVolatile → Msg → ShardAct
-shard_row d sh s v (ReadAsk t k) = on_read_ask d s v t k
-shard_row d sh s v (ReadCancel t k) = on_read_cancel v t k
-shard_row d sh s v (Prepare t part) = on_prepare d sh s v t part
-shard_row d sh s v (Finish t o) = on_finish d s v t o
-shard_row d sh s v _ = shard_stays v
+-- CATCH-UP with the list of outcomes of its coordinator
+-- an abort, or a commit with a key of this shard
+abbrev pub concerns : Layout → ℕ → Decision → Bool
+concerns c sh Abort = true
+concerns c sh (Commit body) = touches c body sh
+
+abbrev pub cut_to_part : Layout → ℕ → Decision → Decision
+cut_to_part c sh Abort = Abort
+cut_to_part c sh (Commit body) = Commit (part c sh body)
+
+-- the entries of a page that concern this shard and are not finished here, each with its part
+abbrev pub unfinished : Layout → ℕ → ShardDurable → List (ℕ × Decision) → List (ℕ × Decision)
+unfinished c sh s page =
+    map (λ (e : ℕ × Decision). (e.0, cut_to_part c sh e.1))
+    (filter (λ (e : ℕ × Decision). is_none (found nat_cmp s.finished e.0) && concerns c sh e.1) page)
+
+abbrev pub is_next_page : ShardVolatile → ℕ → List (ℕ × Decision) → Bool
+is_next_page v place page = (place == v.place) && nat_lt (place + length page) (2 ^ 32)
+
+abbrev pub with_place : ShardVolatile → ℕ → ShardVolatile
+with_place v place = record { plain = v.plain; lost = v.lost; waiting = v.waiting; place = place }
+
+-- after a full page the next one is asked for
+abbrev pub asks_next : ℕ → ℕ → List (ℕ × Decision) → Sends
+asks_next d place page = if length page == 64 then one (coordinator d) (CatchAsk (place + length page)) else []
+
+abbrev pub then_says : ShardAct → Sends → ShardAct
+then_says act more = record { logs = act.logs; after = act.after; sends = act.sends ++ more }
+
+abbrev pub takes_page : ℕ → ShardDurable → ShardVolatile → List (ℕ × Decision) → ShardAct
+takes_page d s v [] = shard_stays v
+takes_page d s v (e ∷ es) = finishes d s v (e ∷ es)
+
+abbrev pub on_catch_page : Layout → ℕ → ℕ → ShardDurable → ShardVolatile → ℕ → List (ℕ × Decision) → ShardAct
+on_catch_page c d sh s v place page =
+    if is_next_page v place page
+    then then_says (takes_page d s (with_place v (place + length page)) (unfinished c sh s page)) (asks_next d place page)
+    else shard_stays v
+
+-- the command to catch up, and what a restart begins with
+abbrev pub do_catch : ℕ → ShardVolatile → ShardAct
+do_catch d v = shard_says v (one (coordinator d) (CatchAsk v.place))
+
+-- a message that no row names is ignored, and so is one that names a datacentre outside the world
+abbrev pub shard_row : Layout → ℕ → ℕ → ShardDurable → ShardVolatile → Msg → ShardAct
+shard_row c d sh s v (ReadAsk t k) = on_read_ask d s v t k
+shard_row c d sh s v (ReadCancel t k) = on_read_cancel v t k
+shard_row c d sh s v (Prepare t part) = on_prepare d sh s v t part
+shard_row c d sh s v (Finish t o) = on_finish d s v t o
+shard_row c d sh s v (CatchPage from place page) = if is_dc c from then on_catch_page c d sh s v place page else shard_stays v
+shard_row c d sh s v _ = shard_stays v

@@ -1,108 +1,122 @@
--- What a script prints: the lines of its commands, run one after another on one world.
-use Rattle.std.specs.Prelude.{ℕ, zero, suc, ◌+◌, Bool, false, ◌&&◌, List, [], ◌∷◌, ◌++◌, Option, Some, None, Result, Ok, Err, ◌==◌, nat_le, length, if◌then◌else◌}
+-- What a script prints, in pieces, one for each of its lines that prints, and how it ends.
+use Rattle.std.specs.Prelude.{ℕ, List, [], ◌∷◌, ◌++◌, Option, Result, Ok, Err, nat_le, length, if◌then◌else◌}
 use Rattle.std.specs.List.{flat_map}
 use Rattle.rc_ids.specs.Tables.{maybe}
-use Rattle.rc_ids.specs.Cluster.{Layout}
+use Rattle.rc_ids.specs.Cluster.{Layout, equal_weights}
 use Rattle.rc_report.specs.declared.line.Line.{Line}
-use Rattle.rc_report.specs.declared.line.Line.TheVariants.{Settled, Order as OrderLine}
+use Rattle.rc_report.specs.declared.line.Line.TheVariants.{Outside, Named, Limit, ScriptBytes, ScriptLines, Log, LogLimit}
 use Rattle.rc_report.specs.Lines.{line_text}
 use Rattle.rc_script.specs.Reading.{script_of}
 use Rattle.rc_script.specs.declared.command.Command.{Command}
 use Rattle.rc_script.specs.declared.command.Command.TheVariants as commands
 use Rattle.rc_script.specs.declared.script.NumberedCommand.{NumberedCommand}
 use Rattle.rc_script.specs.declared.fault.ScriptFault.{ScriptFault}
-use Rattle.rc_protocol.specs.declared.event.Event.{Event}
-use Rattle.rc_protocol.specs.declared.event.Event.TheVariants.{Begin, Read, Write, Commit, Deliver}
-use Rattle.rc_report.specs.declared.fault.Wrong.{Wrong}
-use Rattle.rc_report.specs.declared.fault.Which.{Which}
-use Rattle.rc_report.specs.declared.fault.Which.TheVariants.{Events}
-use Rattle.rc_protocol.specs.World.{World, new_world, step, printed, order, wrong, limit, most_events}
+use Rattle.rc_script.specs.declared.fault.ScriptFault.TheVariants as faults
+use Rattle.rc_protocol.specs.Session.{Session, Halt, Misnamed, Limited, LogRefused, LogFull, FarmFails}
+use Rattle.rc_protocol.specs.Script.{performs}
+use Rattle.rc_protocol.specs.Stored.{Place, new_session}
 
--- why a line ends the script
-pub data Halt : Type 0 where
-  Misnamed : Wrong → Halt
-  Limited : Which → Halt
-  -- no run of the line's form is built yet
-  Unbuilt : Halt
+-- how a script ends
+pub data Ending : Type 0 where
+  -- every line was run
+  Done : Ending
+  -- a line is outside the grammar, or names something wrongly
+  BadScript : Ending
+  -- a counted quantity would pass its number
+  LimitMet : Ending
+  -- a disk could not be had, created or opened
+  FarmFault : Ending
+  -- a log is damaged, has a record that is refused, or is of another world
+  BadLog : Ending
 
--- the world after, and what was printed
-abbrev pub Went : Type 0
-Went = Result (World × List Line) Halt
+-- the pieces of the text, and the ending
+pub record Played : Type 0 where
+  pub texts : List (List ℕ)
+  pub ending : Ending
 
--- one event: refused for a wrong name, then for a limit, else done
-abbrev pub happens : World → Event → Went
-happens w e = maybe (wrong w e) (maybe (limit w e) (Ok (step w e, printed w e)) (λ which. Err (Limited which))) (λ name. Err (Misnamed name))
+-- HOW A SCRIPT THAT HALTS IN A LINE ENDS
+abbrev pub ending_of : Halt → Ending
+ending_of (Misnamed name) = BadScript
+ending_of (Limited which) = LimitMet
+ending_of (LogRefused node fault) = BadLog
+ending_of (LogFull node) = LimitMet
+ending_of FarmFails = FarmFault
 
-abbrev pub goes_on : Went → (World → List Line → Went) → Went
-goes_on (Ok done) next = next done.0 done.1
-goes_on (Err halt) next = Err halt
+-- its last line, with the number of the line of the script
+abbrev pub fault_lines : ℕ → Halt → List Line
+fault_lines number (Misnamed name) = Named number name ∷ []
+fault_lines number (Limited which) = Limit number which ∷ []
+fault_lines number (LogRefused node fault) = Log node fault ∷ []
+fault_lines number (LogFull node) = LogLimit node ∷ []
+fault_lines number FarmFails = []
 
--- the oldest pending message
-abbrev pub oldest : List ℕ → Option ℕ
-oldest [] = None
-oldest (n ∷ ns) = Some n
+-- where a device fails nothing of the line is written
+abbrev pub last_lines : ℕ → List Line → Halt → List Line
+last_lines number lines FarmFails = []
+last_lines number lines halt = lines ++ fault_lines number halt
 
--- delivers the oldest pending message until none is pending, and then prints the number of deliveries. The first number bounds the
--- deliveries: no more events than the limit can follow
-unfoldable pub settles : ℕ → ℕ → World → List Line → Went
-settles zero count w lines = maybe (oldest w.pending) (Ok (w, lines ++ Settled count ∷ [])) (λ n. Err (Limited Events))
-settles (suc fuel) count w lines =
-    maybe (oldest w.pending)
-    (Ok (w, lines ++ Settled count ∷ []))
-    (λ n. goes_on (happens w (Deliver n)) (λ after more. settles fuel (count + 1) after (lines ++ more)))
+-- PIECES: the text of a line of the script is one piece, its fault line with it; a line without text has none
+abbrev pub piece_of : List Line → List (List ℕ)
+piece_of [] = []
+piece_of (line ∷ lines) = flat_map line_text (line ∷ lines) ∷ []
 
--- one command of a script, after the one that made the world
-abbrev pub performs : World → Command → Went
-performs w (commands.Begin t) = happens w (Begin t)
-performs w (commands.Read t k) = happens w (Read t k)
-performs w (commands.Write t k value) = happens w (Write t k value)
-performs w (commands.Commit t) = happens w (Commit t)
-performs w commands.Settle = settles most_events 0 w []
-performs w commands.Order = Ok (w, OrderLine (order w) ∷ [])
-performs w _ = Err Unbuilt
+abbrev pub halted : ℕ → List Line → Halt → Played
+halted number lines halt = record { texts = piece_of (last_lines number lines halt); ending = ending_of halt }
 
--- the text of a line of the script; a line without text is none
-abbrev pub text_of : List Line → List (List ℕ)
-text_of [] = []
-text_of (line ∷ lines) = flat_map line_text (line ∷ lines) ∷ []
+abbrev pub then_played : List Line → Played → Played
+then_played lines rest = record { texts = piece_of lines ++ rest.texts; ending = rest.ending }
 
--- the texts of commands in order, or why one of them ends the script
-abbrev pub with_text : List Line → Result (List (List ℕ)) Halt → Result (List (List ℕ)) Halt
-with_text lines (Ok texts) = Ok (text_of lines ++ texts)
-with_text lines (Err halt) = Err halt
+abbrev pub all_done : Played
+all_done = record { texts = []; ending = Done }
 
-abbrev pub then_texts : Went → (World → Result (List (List ℕ)) Halt) → Result (List (List ℕ)) Halt
-then_texts (Ok done) rest = with_text done.1 (rest done.0)
-then_texts (Err halt) rest = Err halt
+unfoldable pub plays : Session → List NumberedCommand → Played
+plays z [] = all_done
+plays z (c ∷ cs) =
+    let done = performs z c.command in
+    maybe done.halt (then_played done.lines (plays done.after cs)) (λ halt. halted c.number done.lines halt)
 
-unfoldable pub texts_from : World → List NumberedCommand → Result (List (List ℕ)) Halt
-texts_from w [] = Ok []
-texts_from w (c ∷ cs) = then_texts (performs w c.command) (λ after. texts_from after cs)
+-- A WORLD from the first line and those of its split keys
+abbrev pub split_keys : List NumberedCommand → List (List ℕ)
+split_keys cs = flat_map (λ (c : NumberedCommand). split_of c.command) cs
+  where
+    split_of : Command → List (List ℕ)
+    split_of (commands.Split k) = k ∷ []
+    split_of _ = []
 
--- three datacentres of one shard each
-abbrev pub three_dcs : Layout
-three_dcs = record { dcs = 3; shards = 1; splits = []; weights = 1 ∷ 1 ∷ 1 ∷ [] }
+abbrev pub layout_of : ℕ → ℕ → Option (List ℕ) → List NumberedCommand → Layout
+layout_of dcs shards weights cs = record { dcs = dcs; shards = shards; splits = split_keys cs; weights = maybe weights (equal_weights dcs) (λ ws. ws) }
 
-abbrev pub is_three_dcs : Command → Bool
-is_three_dcs (commands.World dcs shards None) = (dcs == 3) && (shards == 1)
-is_three_dcs _ = false
+abbrev pub plays_from : List NumberedCommand → ℕ → Result Session Halt → Played
+plays_from cs number (Ok z) = plays z cs
+plays_from cs number (Err halt) = halted number [] halt
 
-unfoldable pub texts_of_commands : List NumberedCommand → Result (List (List ℕ)) Halt
-texts_of_commands [] = Ok []
-texts_of_commands (c ∷ cs) = if is_three_dcs c.command then texts_from (new_world three_dcs) cs else Err Unbuilt
+abbrev pub plays_in : Place → NumberedCommand → List NumberedCommand → Command → Played
+plays_in p first cs (commands.World dcs shards weights) = plays_from cs first.number (new_session p (layout_of dcs shards weights cs))
+plays_in p first cs _ = all_done
 
--- the texts of a script's lines, in order, where its form is built: it is a script of the grammar, has no other lines than are performed
--- here, names nothing wrongly and meets no limit, that of its own bytes among them
-abbrev pub only_texts : Result (List (List ℕ)) Halt → Option (List (List ℕ))
-only_texts (Ok texts) = Some texts
-only_texts (Err halt) = None
+-- a script of skipped lines alone does nothing
+unfoldable pub plays_script : Place → List NumberedCommand → Played
+plays_script p [] = all_done
+plays_script p (c ∷ cs) = plays_in p c cs c.command
 
-abbrev pub texts_of_result : Result (List NumberedCommand) ScriptFault → Option (List (List ℕ))
-texts_of_result (Ok cs) = only_texts (texts_of_commands cs)
-texts_of_result (Err fault) = None
+-- A SCRIPT: limits of its bytes and lines before its grammar, and all of it before a line is run
+abbrev pub refused_script : ScriptFault → Played
+refused_script (faults.Line number) = record { texts = piece_of (Outside number ∷ []); ending = BadScript }
+refused_script faults.TooManyLines = record { texts = piece_of (ScriptLines ∷ []); ending = LimitMet }
+refused_script faults.NoMemory = all_done
+
+abbrev pub plays_parsed : Place → Result (List NumberedCommand) ScriptFault → Played
+plays_parsed p (Ok cs) = plays_script p cs
+plays_parsed p (Err fault) = refused_script fault
 
 abbrev pub most_script_bytes : ℕ
 most_script_bytes = 1048576
 
-abbrev pub texts : List ℕ → Option (List (List ℕ))
-texts bytes = if nat_le (length bytes) most_script_bytes then texts_of_result (script_of bytes) else None
+abbrev pub plays_bytes : Place → List ℕ → Played
+plays_bytes p bytes =
+    if nat_le (length bytes) most_script_bytes then plays_parsed p (script_of bytes)
+    else record { texts = piece_of (ScriptBytes ∷ []); ending = LimitMet }
+
+-- the place is selected before the script is read
+abbrev pub played : Place → List ℕ → Played
+played p bytes = if p.select_fails then record { texts = []; ending = FarmFault } else plays_bytes p bytes

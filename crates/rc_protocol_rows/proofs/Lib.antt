@@ -1,1 +1,11 @@
-pub mod Computed
+pub mod CalmRuns
+pub mod ConflictRuns
+pub mod TakeOverRuns
+pub mod StopRuns
+pub mod RefusalRuns
+pub mod OneMap
+pub mod CutRuns
+pub mod FailingCallRuns
+pub mod LongRuns
+pub mod SizeRuns
+pub mod StoredRuns

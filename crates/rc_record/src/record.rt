@@ -1,10 +1,14 @@
 // The kinds of records.
+use crate::Head;
 use rc_body::{Body, Decision, Page};
 use rc_ids::{Ballot, TxId};
 
-/// A record of a shard server's log (`Prepared`, `Finished`) or a coordinator's (`Promised`, `Accepted`, `Decided`).
+/// A record of a log: its head, then those of a shard server (`Prepared`, `Finished`) or of a coordinator (`Promised`, `Accepted`,
+/// `Decided`).
 #[derive(Drop)]
 pub enum Record {
+    /// Whose log it is, of which world.
+    Head(Head),
     /// A shard prepared its part of a transaction.
     Prepared(TxId, Body),
     /// A shard learned outcomes; the bodies are its parts.

@@ -40,6 +40,15 @@ impl Lines {
         Ok(())
     }
 
+    /// Adds lines at the end.
+    pub fn append(&mut self, other: Lines) -> Result<(), NoMemory>
+        ensures { OnOk result (self.new ≡ self.old ++ other) }
+    {
+        let mut other = other;
+        self.items.append(&mut other.items)?;
+        Ok(())
+    }
+
     /// How many lines there are.
     pub fn len(&self) -> usize
         ensures { result ≡ length self.now }

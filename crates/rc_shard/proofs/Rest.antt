@@ -98,8 +98,3 @@ sent_kept g p out rest x here =
 pub sent_left : {Y : Type 0} (g : Mark → Y) (p : Mark → Bool) (out : List Y) (rest : List Mark) (x : Mark) → p x ≡ false
     → out ++ map g (filter p (x ∷ rest)) ≡ out ++ map g (filter p rest)
 sent_left g p out rest x here = ap (λ b. out ++ map g (cond b (x ∷ filter p rest) (filter p rest))) here
-
--- a version follows that of a written entry
-pub lasts : (part : List Entry) (i : ℕ) (e : Entry) → list_any wears_out part ≡ false → slice_get part i ≡ Some e → is_some e.write ≡ true
-    → (e.version == 2 ^ 62 - 1) ≡ false
-lasts part i e none at written = sym (ap (λ b. b && (e.version == 2 ^ 62 - 1)) written) ∙ none_passes wears_out part i e none at

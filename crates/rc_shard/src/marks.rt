@@ -1,13 +1,14 @@
 // Keys that transactions locked or lost.
 ghost use Rattle.std.specs.Prelude.{◌≡◌, [], not, filter, OnOk};
 ghost use Rattle.rc_ids.specs.Tables.{member, added};
-ghost use Rattle.rc_protocol.specs.Shard.{Mark, mark_cmp, cleared, is_other, is_taken, is_free, added_all};
+ghost use Rattle.rc_protocol.specs.Shard.{Mark, mark_cmp, cleared, is_other, is_taken, is_free as is_free_lem, added_all};
 
-use crate::durable::Durable;
 use crate::entries::takes;
+use crate::parts::is_free;
 use crate::waiting::Waiting;
 use rc_body::Body;
 use rc_ids::{Key, NoMemory, TxId};
+use rc_record::PreparedParts;
 use std::alloc::Global;
 use std::collections::BTreeSet;
 use std::marker::Model;
@@ -79,11 +80,11 @@ impl Marks {
     }
 
     /// Adds each waiting read whose key nobody holds exclusively.
-    pub fn add_free(&mut self, waiting: &Waiting, durable: &Durable) -> Result<(), NoMemory>
-        ensures { OnOk result (self.new ≡ added_all self.old (filter (is_free durable.now.parts) waiting.now)) }
+    pub fn add_free(&mut self, waiting: &Waiting, parts: &PreparedParts) -> Result<(), NoMemory>
+        ensures { OnOk result (self.new ≡ added_all self.old (filter (is_free_lem parts.now) waiting.now)) }
     {
         for mark in &waiting.marks {
-            if durable.is_free(mark) {
+            if is_free(parts, mark) {
                 self.add((mark.0.copy(), mark.1))?;
             }
         }

@@ -3,26 +3,25 @@ ghost use Rattle.std.specs.Prelude.{◌≡◌, is_some};
 ghost use Rattle.rc_body.specs.declared.entry.Entry.{Entry};
 ghost use Rattle.rc_protocol.specs.Shard.{locked, lost_by, stale, first_reason, test};
 
-use crate::durable::Durable;
 use crate::marks::Marks;
-use crate::parts::Parts;
-use crate::rows::Rows;
+use crate::parts::{holder, reader};
 use crate::volatile::Volatile;
 use rc_body::{Body, Reason};
 use rc_ids::{Key, TxId, Version};
+use rc_record::{PreparedParts, Rows, ShardDurable};
 
 /// Another transaction's part keeps an entry with the key from being prepared.
-fn locked_key(parts: &Parts, key: &Key, written: bool) -> Option<Reason>
+fn locked_key(parts: &PreparedParts, key: &Key, written: bool) -> Option<Reason>
     ensures { (e : Entry) → e.key ≡ key.now → is_some e.write ≡ written → result ≡ locked parts.now e }
 {
-    if let Some(holder) = parts.holder(key) {
-        return Some(Reason::Locked(key.copy(), holder));
+    if let Some(tx) = holder(parts, key) {
+        return Some(Reason::Locked(key.copy(), tx));
     }
     if !written {
         return None;
     }
-    match parts.reader(key) {
-        Some(reader) => Some(Reason::Locked(key.copy(), reader)),
+    match reader(parts, key) {
+        Some(tx) => Some(Reason::Locked(key.copy(), tx)),
         None => None,
     }
 }
@@ -49,7 +48,7 @@ fn stale_key(rows: &Rows, key: &Key, read: Version) -> Option<Reason>
 }
 
 /// Of the first entry that is locked.
-fn first_locked(parts: &Parts, part: &Body) -> Option<Reason>
+fn first_locked(parts: &PreparedParts, part: &Body) -> Option<Reason>
     ensures { result ≡ first_reason (locked parts.now) part.now }
 {
     for index in 0..part.len() {
@@ -88,7 +87,7 @@ fn first_stale(rows: &Rows, part: &Body) -> Option<Reason>
 }
 
 /// Why the part of the transaction may not be prepared, where it may not.
-pub fn refusal(durable: &Durable, volatile: &Volatile, tx: TxId, part: &Body) -> Option<Reason>
+pub fn refusal(durable: &ShardDurable, volatile: &Volatile, tx: TxId, part: &Body) -> Option<Reason>
     ensures { result ≡ test durable.now volatile.now tx part.now }
 {
     if let Some(reason) = first_locked(&durable.parts, part) {

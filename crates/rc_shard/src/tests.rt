@@ -1,8 +1,9 @@
-// A shard server through a few messages, and what it says to each.
+// A shard server through a few messages, and what it says to each; and one that catches up, stops and starts again.
 use crate::Shard;
-use rc_body::{Body, Decision, Entry, Reason};
-use rc_ids::{DcId, Key, ShardId, TxId, Val, Version};
+use rc_body::{Body, Decision, Entry, Page, Reason};
+use rc_ids::{Cluster, DcId, Key, ShardId, TxId, Val, Version};
 use rc_msg::{Msg, Outbox};
+use rc_report::Lines;
 use std::alloc::Global;
 use std::test::Fail;
 
@@ -14,6 +15,7 @@ enum Said {
     Locked(TxId, TxId),
     Lost(TxId),
     Stale(TxId, Version),
+    AsksFrom(u32),
     Other,
 }
 
@@ -27,6 +29,7 @@ fn summary(msg: &Msg) -> Said {
             Reason::Stale(_, version) => Said::Stale(*tx, *version),
             Reason::Promised(_) => Said::Other,
         },
+        Msg::CatchAsk(place) => Said::AsksFrom(*place),
         _ => Said::Other,
     }
 }
@@ -70,12 +73,25 @@ fn message(alloc: Global, step: usize) -> Result<Msg, Fail> {
     })
 }
 
-fn answer(alloc: Global, shard: &mut Shard, step: usize) -> Result<Option<Said>, Fail> {
-    let msg = message(alloc, step)?;
-    let mut out = Outbox::new(alloc);
-    shard.handle(DcId(1), ShardId(1), &msg, &mut out)?;
+/// A world of one datacentre with one shard.
+fn one_shard(alloc: Global) -> Result<Cluster, Fail> {
+    Ok(Cluster::new(1, 1, Vec::new(alloc))?)
+}
+
+fn first_said(out: Outbox) -> Option<Said> {
     let sends = out.into_sends();
-    Ok(sends.first().map(|send| summary(&send.1)))
+    sends.first().map(|send| summary(&send.1))
+}
+
+fn answer(
+    alloc: Global,
+    cluster: &Cluster,
+    shard: &mut Shard,
+    msg: &Msg,
+) -> Result<Option<Said>, Fail> {
+    let mut out = Outbox::new(alloc);
+    shard.handle(alloc, cluster, DcId(1), ShardId(1), msg, &mut out)?;
+    Ok(first_said(out))
 }
 
 #[test]
@@ -96,9 +112,71 @@ fn answers_messages(rt: HostRuntime) -> Result<(), Fail> {
         None,
         Some(Said::Granted(TxId(6), Version(0), false)),
     ];
-    let mut shard = Shard::new(rt.alloc());
+    let alloc = rt.alloc();
+    let cluster = one_shard(alloc)?;
+    let mut shard = Shard::new(alloc);
     for (step, wanted) in wanted.iter().enumerate() {
-        assert_eq!(rt; answer(rt.alloc(), &mut shard, step)?, *wanted, "at {step}");
+        let msg = message(alloc, step)?;
+        let said = answer(alloc, &cluster, &mut shard, &msg)?;
+        assert_eq!(rt; said, *wanted, "at {step}");
     }
+    Ok(())
+}
+
+/// A page with a commit that writes the key, and an abort.
+fn page(alloc: Global) -> Result<Page, Fail> {
+    let mut page = Page::one(alloc, TxId(7), Decision::Commit(writes(alloc)?))?;
+    if page.len() < Page::MOST_ENTRIES && !page.has(TxId(8)) {
+        page.push(TxId(8), Decision::Abort)?;
+    }
+    Ok(page)
+}
+
+fn asked(alloc: Global, shard: &Shard) -> Result<Option<Said>, Fail> {
+    let mut out = Outbox::new(alloc);
+    shard.catch(DcId(1), &mut out)?;
+    Ok(first_said(out))
+}
+
+fn shown(alloc: Global, shard: &Shard) -> Result<usize, Fail> {
+    let mut lines = Lines::new(alloc);
+    shard.show(alloc, DcId(1), ShardId(1), &mut lines)?;
+    Ok(lines.len())
+}
+
+/// A server that took the page.
+fn caught_up(alloc: Global) -> Result<Shard, Fail> {
+    let cluster = one_shard(alloc)?;
+    let mut shard = Shard::new(alloc);
+    let msg = Msg::CatchPage(DcId(1), 0, page(alloc)?);
+    let _ = answer(alloc, &cluster, &mut shard, &msg)?;
+    Ok(shard)
+}
+
+#[test]
+fn catches_up(rt: HostRuntime) -> Result<(), Fail> {
+    let shard = caught_up(rt.alloc())?;
+    assert_eq!(rt; asked(rt.alloc(), &shard)?, Some(Said::AsksFrom(2)));
+    assert_eq!(rt; shown(rt.alloc(), &shard)?, 1);
+    Ok(())
+}
+
+fn take_back(alloc: Global, shard: &mut Shard) -> Result<(), Fail> {
+    if shard.log_len() > 0 {
+        shard.take_back(alloc)?;
+    }
+    Ok(())
+}
+
+#[test]
+fn starts_again(rt: HostRuntime) -> Result<(), Fail> {
+    let mut shard = caught_up(rt.alloc())?;
+    shard.stop();
+    let was_up = shard.is_up();
+    shard.restart();
+    take_back(rt.alloc(), &mut shard)?;
+    assert_eq!(rt; (was_up, shard.is_up()), (false, true));
+    assert_eq!(rt; asked(rt.alloc(), &shard)?, Some(Said::AsksFrom(0)));
+    assert_eq!(rt; shown(rt.alloc(), &shard)?, 0);
     Ok(())
 }

@@ -1,23 +1,25 @@
 // What a stop loses.
 ghost use Rattle.std.specs.Prelude.{◌≡◌, ◌++◌, OnOk};
 ghost use Rattle.rc_ids.specs.Tables.{member};
-ghost use Rattle.rc_protocol.specs.Shard.{new_volatile, mark_cmp, forgotten, granted, grants, waits, locks_plain, on_read_cancel, preempted};
+ghost use Rattle.rc_protocol.specs.Shard.{new_volatile, mark_cmp, forgotten, forgotten_all, is_next_page, with_place, do_catch, granted, grants, waits, locks_plain, on_read_cancel, preempted};
 
-use crate::durable::Durable;
 use crate::marks::Marks;
 use crate::waiting::Waiting;
-use rc_body::Body;
-use rc_ids::{DcId, Key, NoMemory, TxId};
-use rc_msg::Outbox;
+use rc_body::{Body, Page};
+use rc_ids::{DcId, Key, NoMemory, NodeId, Party, TxId};
+use rc_msg::{Msg, Outbox};
+use rc_record::ShardDurable;
 use std::alloc::Global;
 use std::marker::Model;
 
-/// What a stop loses: plain read locks, the marks of those that a prepare took away, and the reads that wait.
+/// What a stop loses: plain read locks, the marks of those that a prepare took away, the reads that wait, and how far the coordinator's
+/// list of outcomes was caught up with.
 #[derive(Drop)]
 pub struct Volatile {
     pub(crate) plain: Marks,
     pub(crate) lost: Marks,
     pub(crate) waiting: Waiting,
+    place: u32,
 }
 
 impl Model for Volatile {
@@ -25,7 +27,7 @@ impl Model for Volatile {
 
     ghost Value = { ShardVolatile };
 
-    ghost view = { λ v. record { plain = v.plain; lost = v.lost; waiting = v.waiting } };
+    ghost view = { λ v. record { plain = v.plain; lost = v.lost; waiting = v.waiting; place = v.place } };
 }
 
 impl Volatile {
@@ -37,6 +39,7 @@ impl Volatile {
             plain: Marks::new(alloc),
             lost: Marks::new(alloc),
             waiting: Waiting::new(alloc),
+            place: 0,
         }
     }
 
@@ -81,6 +84,37 @@ impl Volatile {
         self.waiting.clear(tx);
     }
 
+    /// Forgets each transaction of the page.
+    pub fn forget_all(&mut self, page: &Page)
+        ensures { self.new ≡ forgotten_all self.old page.now }
+    {
+        for index in 0..page.len() {
+            let (tx, _) = page.entry(index);
+            self.forget(tx);
+        }
+    }
+
+    /// Whether the page of outcomes is the next one, and its end is a place.
+    pub fn is_next_page(&self, place: u32, page: &Page) -> bool
+        ensures { result ≡ is_next_page self.now place page.now }
+    {
+        place == self.place && place as u64 + (page.len() as u64) < 1 << 32
+    }
+
+    /// Keeps how far the list of outcomes was caught up with.
+    pub fn set_place(&mut self, place: u32)
+        ensures { self.new ≡ with_place self.old place }
+    {
+        self.place = place;
+    }
+
+    /// Asks the coordinator for the outcomes from the place on.
+    pub fn send_catch(&self, dc: DcId, out: &mut Outbox) -> Result<(), NoMemory>
+        ensures { OnOk result (out.new ≡ out.old ++ (do_catch dc self.now).sends) }
+    {
+        out.push(Party::Node(NodeId::Coord(dc)), &Msg::CatchAsk(self.place))
+    }
+
     /// Takes the plain locks of others on keys that the part writes away, and lets the transaction's own locks and reads go.
     pub fn preempt(&mut self, tx: TxId, part: &Body) -> Result<(), NoMemory>
         ensures { OnOk result (self.new ≡ preempted self.old tx part.now) }
@@ -93,18 +127,23 @@ impl Volatile {
     }
 
     /// Sends a grant to each waiting read whose key nobody holds exclusively.
-    pub fn send_grants(&self, dc: DcId, durable: &Durable, out: &mut Outbox) -> Result<(), NoMemory>
+    pub fn send_grants(
+        &self,
+        dc: DcId,
+        durable: &ShardDurable,
+        out: &mut Outbox,
+    ) -> Result<(), NoMemory>
         ensures { OnOk result (out.new ≡ out.old ++ grants dc durable.now self.now) }
     {
         self.waiting.send_grants(dc, durable, out)
     }
 
     /// Gives each waiting read whose key nobody holds exclusively a plain lock.
-    pub fn grant(&mut self, durable: &Durable) -> Result<(), NoMemory>
+    pub fn grant(&mut self, durable: &ShardDurable) -> Result<(), NoMemory>
         ensures { OnOk result (self.new ≡ granted durable.now self.old) }
     {
-        self.plain.add_free(&self.waiting, durable)?;
-        self.waiting.drop_free(durable);
+        self.plain.add_free(&self.waiting, &durable.parts)?;
+        self.waiting.drop_free(&durable.parts);
         Ok(())
     }
 }

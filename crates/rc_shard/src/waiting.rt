@@ -1,11 +1,13 @@
 // Reads that wait for a key.
 ghost use Rattle.std.specs.Prelude.{◌≡◌, [], ◌∷◌, ◌++◌, not, filter, map, OnOk};
 ghost use Rattle.rc_ids.specs.Tables.{member};
-ghost use Rattle.rc_protocol.specs.Shard.{Mark, mark_cmp, cleared, is_other, is_free, grant_of};
+ghost use Rattle.rc_protocol.specs.Shard.{Mark, mark_cmp, cleared, is_other, is_free as is_free_lem, grant_of};
 
-use crate::durable::Durable;
+use crate::grants::send_grant;
+use crate::parts::is_free;
 use rc_ids::{DcId, Key, NoMemory, TxId};
 use rc_msg::Outbox;
+use rc_record::{PreparedParts, ShardDurable};
 use std::alloc::Global;
 use std::marker::Model;
 
@@ -64,19 +66,24 @@ impl Waiting {
     }
 
     /// Removes the reads whose key nobody holds exclusively.
-    pub fn drop_free(&mut self, durable: &Durable)
-        ensures { self.new ≡ filter (λ (m : Mark). not (is_free durable.now.parts m)) self.old }
+    pub fn drop_free(&mut self, parts: &PreparedParts)
+        ensures { self.new ≡ filter (λ (m : Mark). not (is_free_lem parts.now m)) self.old }
     {
-        self.marks.retain(|mark| !durable.is_free(mark));
+        self.marks.retain(|mark| !is_free(parts, mark));
     }
 
     /// Sends a grant to each read whose key nobody holds exclusively.
-    pub fn send_grants(&self, dc: DcId, durable: &Durable, out: &mut Outbox) -> Result<(), NoMemory>
-        ensures { OnOk result (out.new ≡ out.old ++ map (grant_of dc durable.now.rows) (filter (is_free durable.now.parts) self.now)) }
+    pub fn send_grants(
+        &self,
+        dc: DcId,
+        durable: &ShardDurable,
+        out: &mut Outbox,
+    ) -> Result<(), NoMemory>
+        ensures { OnOk result (out.new ≡ out.old ++ map (grant_of dc durable.now.rows) (filter (is_free_lem durable.now.parts) self.now)) }
     {
         for mark in &self.marks {
-            if durable.is_free(mark) {
-                durable.send_grant(dc, mark, out)?;
+            if is_free(&durable.parts, mark) {
+                send_grant(dc, &durable.rows, mark, out)?;
             }
         }
         Ok(())

@@ -1,186 +1,230 @@
 -- Deeds of parties, from what happened at the party that acts.
-use Rattle.std.proofs.Common.{◌≡◌, ℕ, zero, suc, ◌<◌, ◌≤◌, true, false, List, [], ◌∷◌, ◌++◌, length, Option, None, Some, refl, sym, ◌∙◌, ap, subst, arith}
-use Rattle.std.proofs.lemmas.List.{append-nil}
-use Rattle.std.proofs.lemmas.Option.{slice_get_past}
-use Rattle.std.specs.Prelude.{slice_get, slice_set, Result, Ok, Err, OnOk, IfErr}
-use Rattle.std.proofs.lemmas.Bool.Decides.{nat_tests}
-use Rattle.std.specs.Ordering.{nat_cmp}
-use Rattle.rc_ids.specs.Tables.{found, maybe}
-use Rattle.rc_ids.specs.Cluster.{is_shard}
+use Rattle.std.proofs.Common.{◌≡◌, ℕ, zero, suc, ◌<◌, ◌≤◌, Bool, true, false, List, [], ◌∷◌, ◌++◌, length, Option, None, Some, refl, sym, ◌∙◌, ap, subst, arith}
+use Rattle.std.proofs.lemmas.List.{append-nil, map-set}
+use Rattle.std.proofs.lemmas.Option.{slice_get_past, slice_get-map}
+use Rattle.std.specs.Prelude.{slice_get, slice_set, Result, Ok, Err, IfOk, if◌then◌else◌}
+use Rattle.std.specs.Option.{option_map}
+use Rattle.rc_ids.specs.Tables.{Table, maybe}
+use Rattle.rc_ids.specs.Cluster.{Layout}
+use Rattle.rc_report.specs.declared.fault.Which.TheVariants.{Ballots}
+use Rattle.rc_ids.specs.declared.names.NodeId.{NodeId}
+use Rattle.rc_ids.specs.declared.names.NodeId.TheVariants.{Coord}
 use Rattle.rc_body.specs.declared.entry.Entry.{Entry}
-use Rattle.rc_msg.specs.declared.msg.Msg.{Msg}
+use Rattle.rc_record.specs.declared.record.Record.{Record}
 use Rattle.rc_report.specs.declared.line.Line.{Line}
-use Rattle.rc_protocol.specs.Messages.{Sends, coordinator, shard_server}
-use Rattle.rc_protocol.specs.Shard.{shard_row}
-use Rattle.rc_protocol.specs.Coordinator.{coord_row}
-use Rattle.rc_protocol.specs.Client.{Client, ClientAct}
-use Rattle.rc_protocol.specs.World.{Parties, CoordNode, ShardNode, Deed, Idle, ByClient, ByCoord, ByShard, received, commanded, coord_place, shard_place, coord_after, shard_after, ordered, replaced}
-use Rattle.rc_world.specs.Acted.{Acted, Refuses, Spends, Wears}
+use Rattle.rc_protocol.specs.Messages.{Sends}
+use Rattle.rc_protocol.specs.Client.{Client}
+use Rattle.rc_protocol.specs.Coordinator.{CoordAct, CoordVolatile}
+use Rattle.rc_protocol.specs.Nodes.{CoordNode, coord_place, logged}
+use Rattle.rc_protocol.specs.Votes.{ordered}
+use Rattle.rc_protocol.specs.World.{Parties, Deed, Idle, ByCoord, Course, Goes, Stops, along, moved, sends_of, lines_of, with_coord, coord_does}
+use Rattle.rc_protocol.specs.Refusals.{worn_out}
+use Rattle.rc_protocol.specs.Devices.{Device, record_length, appended}
+use Rattle.rc_protocol.specs.Session.{DiskWork, no_work, no_device, append_work}
+use Rattle.rc_world.specs.Hosts.{CoordSite, ShardSite, coord_nodes, coord_devices, coord_left, course_for, device_for, record_left, sends_left, lines_left}
+use Rattle.rc_world.specs.Acted.{Housed, housed, disk_at, with_disk, deed_work, disks_after, Acted, Refuses, CoordDone, CoordDid, CoordIdle, Lacking}
 use Rattle.rc_world.specs.declared.fault.ActFault.{ActFault}
-use Rattle.rc_world.specs.declared.fault.ActFault.TheVariants.{NoMemory, VersionSpent, BallotsSpent, NetworkFull}
+use Rattle.rc_world.specs.declared.fault.ActFault.TheVariants.{NoMemory, VersionSpent, BallotsSpent}
 
--- nobody acted
-pub idle : (deed : Deed) → deed ≡ Idle → (p : Parties) (sends : Sends) (lines : List Line) → Acted deed p p sends sends lines lines
-idle deed is p sends lines = subst (λ (d : Deed). Acted d p p sends sends lines lines) (sym is) (record { parties = refl; sends = sym (append-nil sends); lines = sym (append-nil lines); whole = refl })
+-- LISTS
+pub within_some : {X : Type 0} (xs : List X) (i : ℕ) → i < length xs → slice_get xs i ≡ None → ⊥
+within_some [] i h none = absurd (omega arith)
+within_some (x ∷ xs) zero h none = cc
+within_some (x ∷ xs) (suc i) h none = let h' : i < length xs = omega arith in within_some xs i h' none
 
-none_within : {X : Type 0} (xs : List X) (i : ℕ) → i < length xs → slice_get xs i ≡ None → ⊥
-none_within [] i h none = absurd (omega arith)
-none_within (x ∷ xs) zero h none = cc
-none_within (x ∷ xs) (suc i) h none = let h' : i < length xs = omega arith in none_within xs i h' none
+pub set_same : {X : Type 0} (xs : List X) (i : ℕ) (x : X) → slice_get xs i ≡ Some x → slice_set xs i x ≡ xs
+set_same [] i x at = refl
+set_same (y ∷ xs) zero x at = let e : x ≡ y = (cc) in ap (λ (z : _). z ∷ xs) e
+set_same (y ∷ xs) (suc i) x at = ap (λ (ys : List _). y ∷ ys) (set_same xs i x at)
+
+pub set_past : {X : Type 0} (xs : List X) (i : ℕ) (x : X) → length xs ≤ i → slice_set xs i x ≡ xs
+set_past [] i x past = refl
+set_past (y ∷ xs) zero x past = absurd (omega arith)
+set_past (y ∷ xs) (suc i) x past = let past' : length xs ≤ i = omega arith in ap (λ (ys : List _). y ∷ ys) (set_past xs i x past')
+
+-- DISKS
+abbrev pub append_at : NodeId → Option Record → Option (NodeId × ℕ)
+append_at node logs = maybe logs None (λ r. Some (node, record_length r))
+
+abbrev pub work_at : Housed → NodeId → Option Record → DiskWork
+work_at h node logs = maybe (append_at node logs) no_work (λ a. append_work a.0 (appended (disk_at h a.0) a.1))
+
+pub work_course : (h : Housed) (node : NodeId) (logs : Option Record) (x : Device) → disk_at h node ≡ x → (work_at h node logs).course ≡ course_for logs x
+work_course h node None x at = refl
+work_course h node (Some r) x at = rw at refl
+
+pub work_disks : (h : Housed) (node : NodeId) (logs : Option Record) (x y : Device) → disk_at h node ≡ x → with_disk h node x ≡ (h.coords, h.shards) → device_for logs x ≡ Some y
+    → disks_after h (work_at h node logs) ≡ Some (with_disk h node y)
+work_disks h node None x y at same left = let e : x ≡ y = (cc) in ap Some (sym same ∙ ap (with_disk h node) e)
+work_disks h node (Some r) x y at same left = rw at (rw left refl)
+
+-- IDLE PARTIES
+pub idle : (deed : Deed) → deed ≡ Idle → (h : Housed) (out : Sends) (lines printed : List Line) → out ≡ [] → printed ≡ lines → Acted deed (deed_work h deed) h h out lines printed
+idle deed is h out lines printed none same =
+    subst (λ (d : Deed). Acted d (deed_work h d) h h out lines printed) (sym is)
+    (record { parties = refl; disks = refl; sends = none; prints = same ∙ sym (append-nil lines); whole = refl })
 
 -- COORDINATORS
-pub coord_outside : (p : Parties) (d : ℕ) (m : Msg) → length p.coords ≤ coord_place d → received p (coordinator d) m ≡ Idle
-coord_outside p d m past = ap (λ (o : Option CoordNode). maybe o Idle (λ x. ByCoord d x (coord_row p.layout d x.durable x.volatile m))) (slice_get_past p.coords (coord_place d) past)
+abbrev act_of : Option Record → CoordVolatile → Sends → Bool → CoordAct
+act_of logs after sends spent = record { logs = logs; after = after; sends = sends; spent = spent }
 
-abbrev CoordDid : Parties → ℕ → Msg → List CoordNode → List (ℕ × List Entry) → Sends → Sends → CoordNode → Type 0
-CoordDid p d m coords committed before after x =
-    let act = coord_row p.layout d x.durable x.volatile m in
-    (coords ≡ slice_set p.coords (coord_place d) (coord_after x act)) × (committed ≡ ordered p.layout coords p.committed act.logs) × (after ≡ before ++ act.sends) × (act.spent ≡ false)
+along_parties : (p : Parties) (d : ℕ) (x : CoordNode) (k : Course) (logs : Option Record) (after : CoordVolatile) (sends : Sends) (spent : Bool)
+    → moved p (along k (ByCoord d x (act_of logs after sends spent))) ≡ with_coord p d (coord_left k x (act_of logs after sends spent)) (record_left k logs)
+along_parties p d x Goes logs after sends spent = refl
+along_parties p d x (Stops kept) None after sends spent = refl
+along_parties p d x (Stops kept) (Some r) after sends spent = refl
+
+along_sends : (d : ℕ) (x : CoordNode) (k : Course) (logs : Option Record) (after : CoordVolatile) (sends : Sends) (spent : Bool)
+    → sends_of (along k (ByCoord d x (act_of logs after sends spent))) ≡ sends_left k logs sends
+along_sends d x Goes logs after sends spent = refl
+along_sends d x (Stops kept) None after sends spent = refl
+along_sends d x (Stops kept) (Some r) after sends spent = refl
+
+along_lines : (d : ℕ) (x : CoordNode) (k : Course) (logs : Option Record) (after : CoordVolatile) (sends : Sends) (spent : Bool)
+    → lines_of (along k (ByCoord d x (act_of logs after sends spent))) ≡ lines_left (Coord d) k logs
+along_lines d x Goes logs after sends spent = refl
+along_lines d x (Stops kept) None after sends spent = refl
+along_lines d x (Stops kept) (Some r) after sends spent = refl
+
+along_whole : (d : ℕ) (x : CoordNode) (k : Course) (logs : Option Record) (after : CoordVolatile) (sends : Sends) (spent : Bool) → spent ≡ false
+    → worn_out (along k (ByCoord d x (act_of logs after sends spent))) ≡ None
+along_whole d x Goes logs after sends spent is = rw is refl
+along_whole d x (Stops kept) None after sends spent is = rw is refl
+along_whole d x (Stops kept) (Some r) after sends spent is = refl
 
 abbrev with_coords : Parties → List CoordNode → List (ℕ × List Entry) → Parties
-with_coords p coords committed = record { layout = p.layout; coords = coords; shards = p.shards; clients = p.clients; committed = committed }
+with_coords p coords committed = record { layout = p.layout; start = p.start; coords = coords; shards = p.shards; clients = p.clients; committed = committed }
 
-coord_case : (p : Parties) (d : ℕ) (m : Msg) (coords : List CoordNode) (committed : List (ℕ × List Entry)) (before after : Sends) (lines : List Line) (o : Option CoordNode)
-    → (o ≡ None → ⊥) → ((x : CoordNode) → o ≡ Some x → CoordDid p d m coords committed before after x)
-    → Acted (maybe o Idle (λ x. ByCoord d x (coord_row p.layout d x.durable x.volatile m))) p (with_coords p coords committed) before after lines lines
-coord_case p d m coords committed before after lines None inside did = absurd (inside refl)
-coord_case p d m coords committed before after lines (Some x) inside did =
-    let h = did x refl in
+coord_disk : (c : Layout) (cs : List CoordSite) (ss : List ShardSite) (clients : Table ℕ Client) (committed : List (ℕ × List Entry)) (d : ℕ) (h : CoordSite)
+    → slice_get cs (coord_place d) ≡ Some h → disk_at (housed c cs ss clients committed) (Coord d) ≡ h.device
+coord_disk c cs ss clients committed d h at =
+    ap (λ (o : Option Device). maybe o no_device (λ x. x)) (slice_get-map (λ (s : CoordSite). s.device) cs (coord_place d) ∙ ap (option_map (λ (s : CoordSite). s.device)) at)
+
+coord_same_disk : (c : Layout) (cs : List CoordSite) (ss : List ShardSite) (clients : Table ℕ Client) (committed : List (ℕ × List Entry)) (d : ℕ) (h : CoordSite)
+    → slice_get cs (coord_place d) ≡ Some h → slice_set (coord_devices cs) (coord_place d) h.device ≡ coord_devices cs
+coord_same_disk c cs ss clients committed d h at =
+    set_same (coord_devices cs) (coord_place d) h.device (slice_get-map (λ (s : CoordSite). s.device) cs (coord_place d) ∙ ap (option_map (λ (s : CoordSite). s.device)) at)
+
+pub coord_did : (c : Layout) (cs cs' : List CoordSite) (ss : List ShardSite) (clients : Table ℕ Client) (committed committed' : List (ℕ × List Entry)) (d : ℕ) (a : CoordAct) (h : CoordSite)
+    (out : Sends) (lines printed : List Line) → slice_get cs (coord_place d) ≡ Some h → CoordDid c d a h cs cs' committed committed' out lines printed
+    → Acted (ByCoord d h.node a) (deed_work (housed c cs ss clients committed) (ByCoord d h.node a)) (housed c cs ss clients committed) (housed c cs' ss clients committed') out lines printed
+coord_did c cs cs' ss clients committed committed' d a h out lines printed at did =
+    let k : Course = course_for a.logs h.device in
+    let old : Housed = housed c cs ss clients committed in
+    let deed : Deed = ByCoord d h.node a in
+    let disk : disk_at old (Coord d) ≡ h.device = coord_disk c cs ss clients committed d h at in
+    let went : (work_at old (Coord d) a.logs).course ≡ k = work_course old (Coord d) a.logs h.device disk in
+    let nodes : coord_nodes cs' ≡ slice_set (coord_nodes cs) (coord_place d) (coord_left k h.node a) =
+    ap coord_nodes did.sites ∙ map-set (λ (s : CoordSite). s.node) cs (coord_place d) did.left ∙ ap (slice_set (coord_nodes cs) (coord_place d)) did.done.node in
+    let devices : coord_devices cs' ≡ slice_set (coord_devices cs) (coord_place d) did.left.device =
+    ap coord_devices did.sites ∙ map-set (λ (s : CoordSite). s.device) cs (coord_place d) did.left in
+    let same : with_disk old (Coord d) h.device ≡ (old.coords, old.shards) = ap (λ (xs : List Device). (xs, old.shards)) (coord_same_disk c cs ss clients committed d h at) in
+    let list : committed' ≡ ordered c (slice_set (coord_nodes cs) (coord_place d) (coord_left k h.node a)) [] committed (record_left k a.logs) =
+    did.committed ∙ ap (λ (xs : List CoordNode). ordered c xs [] committed (record_left k a.logs)) nodes in
     record {
-      parties = ap (λ (cs : List CoordNode). with_coords p cs committed) h.0 ∙ ap (λ (list : List (ℕ × List Entry)). with_coords p (slice_set p.coords (coord_place d) (coord_after x (coord_row p.layout d x.durable x.volatile m))) list) (h.1 ∙ ap (λ (cs : List CoordNode). ordered p.layout cs p.committed (coord_row p.layout d x.durable x.volatile m).logs) h.0);
-      sends = h.2;
-      lines = sym (append-nil lines);
-      whole = rw h.3 refl;
+      parties = ap (λ (xs : List CoordNode). with_coords old.parties xs committed') nodes ∙ ap (with_coords old.parties (slice_set (coord_nodes cs) (coord_place d) (coord_left k h.node a))) list
+          ∙ sym (along_parties old.parties d h.node k a.logs a.after a.sends a.spent) ∙ ap (λ (j : Course). moved old.parties (along j deed)) (sym went);
+      disks = work_disks old (Coord d) a.logs h.device did.left.device disk same did.done.device ∙ ap (λ (xs : List Device). Some (xs, old.shards)) (sym devices);
+      sends = did.done.sends ∙ sym (along_sends d h.node k a.logs a.after a.sends a.spent) ∙ ap (λ (j : Course). sends_of (along j deed)) (sym went);
+      prints = did.done.prints ∙ ap (λ (ls : List Line). lines ++ ls) (sym (along_lines d h.node k a.logs a.after a.sends a.spent) ∙ ap (λ (j : Course). lines_of (along j deed)) (sym went));
+      whole = ap (λ (j : Course). worn_out (along j deed)) went ∙ along_whole d h.node k a.logs a.after a.sends a.spent did.done.whole;
     }
 
-pub coord_acted : (p : Parties) (d : ℕ) (m : Msg) (coords : List CoordNode) (committed : List (ℕ × List Entry)) (before after : Sends) → coord_place d < length p.coords
-    → ((x : CoordNode) → slice_get p.coords (coord_place d) ≡ Some x → CoordDid p d m coords committed before after x)
-    → (lines : List Line) → Acted (received p (coordinator d) m) p (with_coords p coords committed) before after lines lines
-coord_acted p d m coords committed before after within did lines =
-    coord_case p d m coords committed before after lines (slice_get p.coords (coord_place d)) (λ gone. none_within p.coords (coord_place d) within gone) did
+-- A COORDINATOR AMONG ALL
+left_log : (k : Course) (x : CoordNode) (logs : Option Record) (after : CoordVolatile) (sends : Sends) (spent : Bool)
+    → (coord_left k x (act_of logs after sends spent)).log ≡ logged x.log (record_left k logs)
+left_log Goes x logs after sends spent = refl
+left_log (Stops kept) x None after sends spent = refl
+left_log (Stops kept) x (Some r) after sends spent = refl
 
-coord_refused_case : (p : Parties) (d : ℕ) (m : Msg) (e : ActFault) (o : Option CoordNode) → (o ≡ None → ⊥) → ((x : CoordNode) → o ≡ Some x → Spends e (coord_row p.layout d x.durable x.volatile m))
-    → Refuses e (maybe o Idle (λ x. ByCoord d x (coord_row p.layout d x.durable x.volatile m)))
-coord_refused_case p d m e None inside did = absurd (inside refl)
-coord_refused_case p d m NoMemory (Some x) inside did = tt
-coord_refused_case p d m VersionSpent (Some x) inside did = absurd (did x refl)
-coord_refused_case p d m BallotsSpent (Some x) inside did = rw (did x refl) refl
-coord_refused_case p d m NetworkFull (Some x) inside did = absurd (did x refl)
+pub get_set : {X : Type 0} (xs : List X) (i : ℕ) (x : X) → i < length xs → slice_get (slice_set xs i x) i ≡ Some x
+get_set [] i x h = absurd (omega arith)
+get_set (y ∷ xs) zero x h = refl
+get_set (y ∷ xs) (suc i) x h = let h' : i < length xs = omega arith in get_set xs i x h'
 
-pub coord_refused : (p : Parties) (d : ℕ) (m : Msg) (e : ActFault) → coord_place d < length p.coords
-    → ((x : CoordNode) → slice_get p.coords (coord_place d) ≡ Some x → Spends e (coord_row p.layout d x.durable x.volatile m)) → Refuses e (received p (coordinator d) m)
-coord_refused p d m e within did = coord_refused_case p d m e (slice_get p.coords (coord_place d)) (λ gone. none_within p.coords (coord_place d) within gone) did
+pub coord_collects : (c : Layout) (d : ℕ) (a : CoordAct) (h left : CoordSite) (cs cs' : List CoordSite) (committed committed' : List (ℕ × List Entry)) (out : Sends) (lines printed : List Line)
+    → CoordDone c d a h left out lines printed → cs' ≡ slice_set cs (coord_place d) left → coord_place d < length cs
+    → ((x : CoordNode) (log : List Record) (l : Option Record) → slice_get (coord_nodes cs') (coord_place d) ≡ Some x → x.log ≡ logged log l → length log ≡ length h.node.log
+    → committed' ≡ ordered c (coord_nodes cs') [] committed l)
+    → CoordDid c d a h cs cs' committed committed' out lines printed
+coord_collects c d a h left cs cs' committed committed' out lines printed done sites within noted =
+    let k : Course = course_for a.logs h.device in
+    let at : slice_get (coord_nodes cs') (coord_place d) ≡ Some left.node =
+    ap (λ (xs : List CoordSite). slice_get (coord_nodes xs) (coord_place d)) sites
+    ∙ slice_get-map (λ (s : CoordSite). s.node) (slice_set cs (coord_place d) left) (coord_place d)
+    ∙ ap (option_map (λ (s : CoordSite). s.node)) (get_set cs (coord_place d) left within) in
+    let log : left.node.log ≡ logged h.node.log (record_left k a.logs) = ap (λ (x : CoordNode). x.log) done.node ∙ left_log k h.node a.logs a.after a.sends a.spent in
+    record { left = left; done = done; sites = sites; committed = noted left.node h.node.log (record_left k a.logs) at log refl }
 
--- CLIENTS
-abbrev with_clients : Parties → List (ℕ × Client) → Parties
-with_clients p clients = record { layout = p.layout; coords = p.coords; shards = p.shards; clients = clients; committed = p.committed }
+pub coord_deed : (c : Layout) (cs cs' : List CoordSite) (ss : List ShardSite) (clients : Table ℕ Client) (committed committed' : List (ℕ × List Entry)) (d : ℕ) (does : CoordNode → CoordAct)
+    (out : Sends) (lines printed : List Line) → coord_place d < length cs
+    → ((h : CoordSite) → slice_get cs (coord_place d) ≡ Some h → h.node.up ≡ false → CoordIdle cs cs' committed committed' out lines printed)
+    → ((h : CoordSite) → slice_get cs (coord_place d) ≡ Some h → h.node.up ≡ true → CoordDid c d (does h.node) h cs cs' committed committed' out lines printed)
+    → let deed = coord_does (housed c cs ss clients committed).parties d does in
+    Acted deed (deed_work (housed c cs ss clients committed) deed) (housed c cs ss clients committed) (housed c cs' ss clients committed') out lines printed
+coord_deed c cs cs' ss clients committed committed' d does out lines printed within idles dids = by_site (slice_get cs (coord_place d)) refl
+  where
+    Goal : Deed → Type 0
+    Goal deed = Acted deed (deed_work (housed c cs ss clients committed) deed) (housed c cs ss clients committed) (housed c cs' ss clients committed') out lines printed
 
-abbrev ClientDid : Parties → ℕ → (Client → ClientAct) → List (ℕ × Client) → Sends → Sends → List Line → List Line → Client → Type 0
-ClientDid p t does clients before after lines_before lines_after x =
-    (clients ≡ replaced p.clients t (does x).after) × (after ≡ before ++ (does x).sends) × (lines_after ≡ lines_before ++ (does x).lines) × ((does x).worn ≡ false)
+    deed_at : (h : CoordSite) → slice_get cs (coord_place d) ≡ Some h → coord_does (housed c cs ss clients committed).parties d does ≡ (if h.node.up then ByCoord d h.node (does h.node) else Idle)
+    deed_at h at = ap (λ (o : Option CoordNode). maybe o Idle (λ x. if x.up then ByCoord d x (does x) else Idle)) (slice_get-map (λ (s : CoordSite). s.node) cs (coord_place d) ∙ ap (option_map (λ (s : CoordSite). s.node)) at)
 
-client_case : (p : Parties) (t : ℕ) (does : Client → ClientAct) (clients : List (ℕ × Client)) (before after : Sends) (lines_before lines_after : List Line) (o : Option Client)
-    → (o ≡ None → (clients ≡ p.clients) × (after ≡ before) × (lines_after ≡ lines_before))
-    → ((x : Client) → o ≡ Some x → ClientDid p t does clients before after lines_before lines_after x)
-    → Acted (maybe o Idle (λ x. ByClient t (does x))) p (with_clients p clients) before after lines_before lines_after
-client_case p t does clients before after lines_before lines_after None outside did =
-    let h = outside refl in
-    record { parties = ap (with_clients p) h.0; sends = h.1 ∙ sym (append-nil before); lines = h.2 ∙ sym (append-nil lines_before); whole = refl }
-client_case p t does clients before after lines_before lines_after (Some x) outside did =
-    let h = did x refl in
-    record { parties = ap (with_clients p) h.0; sends = h.1; lines = h.2; whole = rw h.3 refl }
+    by_up : (h : CoordSite) → slice_get cs (coord_place d) ≡ Some h → (up : Bool) → h.node.up ≡ up → Goal (if up then ByCoord d h.node (does h.node) else Idle)
+    by_up h at true is = coord_did c cs cs' ss clients committed committed' d (does h.node) h out lines printed at (dids h at is)
+    by_up h at false is =
+        let i = idles h at is in
+        subst (λ (xs : List CoordSite). Acted Idle no_work (housed c cs ss clients committed) (housed c xs ss clients committed') out lines printed) (sym i.sites)
+        (subst (λ (ts : List (ℕ × List Entry)). Acted Idle no_work (housed c cs ss clients committed) (housed c cs ss clients ts) out lines printed) (sym i.committed)
+        (idle Idle refl (housed c cs ss clients committed) out lines printed i.sends i.prints))
 
-pub client_acted : (p : Parties) (t : ℕ) (does : Client → ClientAct) (clients : List (ℕ × Client)) (before after : Sends) (lines_before lines_after : List Line)
-    → (found nat_cmp p.clients t ≡ None → (clients ≡ p.clients) × (after ≡ before) × (lines_after ≡ lines_before))
-    → ((x : Client) → found nat_cmp p.clients t ≡ Some x → ClientDid p t does clients before after lines_before lines_after x)
-    → Acted (commanded p t does) p (with_clients p clients) before after lines_before lines_after
-client_acted p t does clients before after lines_before lines_after outside did = client_case p t does clients before after lines_before lines_after (found nat_cmp p.clients t) outside did
+    by_site : (o : Option CoordSite) → slice_get cs (coord_place d) ≡ o → Goal (coord_does (housed c cs ss clients committed).parties d does)
+    by_site None at = absurd (within_some cs (coord_place d) within at)
+    by_site (Some h) at = subst Goal (sym (deed_at h at)) (by_up h at h.node.up refl)
 
-client_refused_case : (t : ℕ) (does : Client → ClientAct) (e : ActFault) (o : Option Client) → (o ≡ None → e ≡ NoMemory) → ((x : Client) → o ≡ Some x → Wears e (does x))
-    → Refuses e (maybe o Idle (λ x. ByClient t (does x)))
-client_refused_case t does e None outside did = subst (λ (f : ActFault). Refuses f Idle) (sym (outside refl)) tt
-client_refused_case t does NoMemory (Some x) outside did = tt
-client_refused_case t does VersionSpent (Some x) outside did = rw (did x refl) refl
-client_refused_case t does BallotsSpent (Some x) outside did = absurd (did x refl)
-client_refused_case t does NetworkFull (Some x) outside did = absurd (did x refl)
+pub coord_deed_at : (c : Layout) (cs cs' : List CoordSite) (ss : List ShardSite) (clients : Table ℕ Client) (committed committed' : List (ℕ × List Entry)) (q : Housed) (d : ℕ) (does : Layout → CoordNode → CoordAct)
+    (out : Sends) (lines printed : List Line) → housed c cs ss clients committed ≡ q → coord_place d < length cs
+    → ((h : CoordSite) → slice_get cs (coord_place d) ≡ Some h → h.node.up ≡ false → CoordIdle cs cs' committed committed' out lines printed)
+    → ((h : CoordSite) → slice_get cs (coord_place d) ≡ Some h → h.node.up ≡ true → CoordDid c d (does c h.node) h cs cs' committed committed' out lines printed)
+    → let deed = coord_does q.parties d (does q.parties.layout) in Acted deed (deed_work q deed) q (housed c cs' ss clients committed') out lines printed
+coord_deed_at c cs cs' ss clients committed committed' q d does out lines printed is within idles dids =
+    subst (λ (r : Housed). let deed = coord_does r.parties d (does r.parties.layout) in Acted deed (deed_work r deed) r (housed c cs' ss clients committed') out lines printed) is
+    (coord_deed c cs cs' ss clients committed committed' d (does c) out lines printed within idles dids)
 
-pub client_refused : (p : Parties) (t : ℕ) (does : Client → ClientAct) (e : ActFault) → (found nat_cmp p.clients t ≡ None → e ≡ NoMemory)
-    → ((x : Client) → found nat_cmp p.clients t ≡ Some x → Wears e (does x)) → Refuses e (commanded p t does)
-client_refused p t does e outside did = client_refused_case t does e (found nat_cmp p.clients t) outside did
+pub coord_past : (c : Layout) (cs : List CoordSite) (ss : List ShardSite) (clients : Table ℕ Client) (committed : List (ℕ × List Entry)) (q : Housed) (d : ℕ) (does : Layout → CoordNode → CoordAct)
+    (out : Sends) (lines : List Line) → housed c cs ss clients committed ≡ q → length cs ≤ coord_place d → out ≡ []
+    → let deed = coord_does q.parties d (does q.parties.layout) in Acted deed (deed_work q deed) q q out lines lines
+coord_past c cs ss clients committed q d does out lines is past none =
+    let none_there : coord_does (housed c cs ss clients committed).parties d (does c) ≡ Idle =
+    ap (λ (o : Option CoordNode). maybe o Idle (λ x. if x.up then ByCoord d x (does c x) else Idle)) (slice_get-map (λ (s : CoordSite). s.node) cs (coord_place d) ∙ ap (option_map (λ (s : CoordSite). s.node)) (slice_get_past cs (coord_place d) past)) in
+    subst (λ (r : Housed). let deed = coord_does r.parties d (does r.parties.layout) in Acted deed (deed_work r deed) r r out lines lines) is
+    (idle (coord_does (housed c cs ss clients committed).parties d (does c)) none_there (housed c cs ss clients committed) out lines lines none refl)
 
--- SHARD SERVERS
-abbrev with_shards : Parties → List ShardNode → Parties
-with_shards p shards = record { layout = p.layout; coords = p.coords; shards = shards; clients = p.clients; committed = p.committed }
+coord_lacks : (d : ℕ) (x : CoordNode) (k : Course) (logs : Option Record) (after : CoordVolatile) (sends : Sends) (spent : Bool) → spent ≡ true → logs ≡ None
+    → worn_out (along k (ByCoord d x (act_of logs after sends spent))) ≡ Some Ballots
+coord_lacks d x Goes logs after sends spent is none = rw is refl
+coord_lacks d x (Stops kept) None after sends spent is none = rw is refl
+coord_lacks d x (Stops kept) (Some r) after sends spent is none = absurd (cc)
 
-abbrev ShardDid : Parties → ℕ → ℕ → Msg → List ShardNode → Sends → Sends → ShardNode → Type 0
-ShardDid p d s m shards before after x =
-    let act = shard_row d s x.durable x.volatile m in
-    (shards ≡ slice_set p.shards (shard_place p.layout d s) (shard_after x act)) × (after ≡ before ++ act.sends)
+pub coord_refused_at : (c : Layout) (cs : List CoordSite) (ss : List ShardSite) (clients : Table ℕ Client) (committed : List (ℕ × List Entry)) (q : Housed) (d : ℕ) (does : Layout → CoordNode → CoordAct) (e : ActFault)
+    → housed c cs ss clients committed ≡ q → coord_place d < length cs
+    → ((h : CoordSite) → slice_get cs (coord_place d) ≡ Some h → (h.node.up ≡ true) × Lacking e (does c h.node)) → Refuses e (coord_does q.parties d (does q.parties.layout))
+coord_refused_at c cs ss clients committed q d does e is within lacking = subst (λ (r : Housed). Refuses e (coord_does r.parties d (does r.parties.layout))) is (by_site (slice_get cs (coord_place d)) refl)
+  where
+    by_fault : (x : CoordNode) (f : ActFault) → Lacking f (does c x) → Refuses f (ByCoord d x (does c x))
+    by_fault x NoMemory lacks = tt
+    by_fault x VersionSpent lacks = absurd lacks
+    by_fault x BallotsSpent lacks = λ k. let a : CoordAct = does c x in coord_lacks d x k a.logs a.after a.sends a.spent lacks.0 lacks.1
 
-shard_case : (p : Parties) (d s : ℕ) (m : Msg) (shards : List ShardNode) (before after : Sends) (lines : List Line) (o : Option ShardNode)
-    → (o ≡ None → ⊥) → ((x : ShardNode) → o ≡ Some x → ShardDid p d s m shards before after x)
-    → Acted (maybe o Idle (λ x. ByShard d s x (shard_row d s x.durable x.volatile m))) p (with_shards p shards) before after lines lines
-shard_case p d s m shards before after lines None inside did = absurd (inside refl)
-shard_case p d s m shards before after lines (Some x) inside did =
-    let h = did x refl in
-    record { parties = ap (with_shards p) h.0; sends = h.1; lines = sym (append-nil lines); whole = refl }
+    by_site : (o : Option CoordSite) → slice_get cs (coord_place d) ≡ o → Refuses e (coord_does (housed c cs ss clients committed).parties d (does c))
+    by_site None at = absurd (within_some cs (coord_place d) within at)
+    by_site (Some h) at =
+        let deed_at : coord_does (housed c cs ss clients committed).parties d (does c) ≡ ByCoord d h.node (does c h.node) =
+        ap (λ (o : Option CoordNode). maybe o Idle (λ x. if x.up then ByCoord d x (does c x) else Idle)) (slice_get-map (λ (s : CoordSite). s.node) cs (coord_place d) ∙ ap (option_map (λ (s : CoordSite). s.node)) at)
+        ∙ ap (λ (up : Bool). if up then ByCoord d h.node (does c h.node) else Idle) (lacking h at).0 in
+        subst (Refuses e) (sym deed_at) (by_fault h.node e (lacking h at).1)
 
-pub shard_acted : (p : Parties) (d s : ℕ) (m : Msg) (shards : List ShardNode) (before after : Sends) → is_shard p.layout s ≡ true → shard_place p.layout d s < length p.shards
-    → ((x : ShardNode) → slice_get p.shards (shard_place p.layout d s) ≡ Some x → ShardDid p d s m shards before after x)
-    → (lines : List Line) → Acted (received p (shard_server d s) m) p (with_shards p shards) before after lines lines
-shard_acted p d s m shards before after is within did lines =
-    rw is (shard_case p d s m shards before after lines (slice_get p.shards (shard_place p.layout d s)) (λ gone. none_within p.shards (shard_place p.layout d s) within gone) did)
-
-pub shard_past : (p : Parties) (d s : ℕ) (m : Msg) → length p.shards ≤ shard_place p.layout d s → received p (shard_server d s) m ≡ Idle
-shard_past p d s m past = grind (arith, slice_get_past)
-
-pub no_such_shard : (p : Parties) (d s : ℕ) (m : Msg) → is_shard p.layout s ≡ false → received p (shard_server d s) m ≡ Idle
-no_such_shard p d s m is = rw is refl
-
--- THE SAME, FOR PARTIES THAT ARE SEEN THROUGH THEIR FIELDS
-pub on_ok2 : {T E A B C : Type 0} (r : Result T E) → (A → B → C) → OnOk r A → OnOk r B → OnOk r C
-on_ok2 (Ok x) f a b = f a b
-on_ok2 (Err e) f a b = tt
-
-pub if_err2 : {T E : Type 0} (r : Result T E) (P Q R : E → Type 0) → ((e : E) → P e → Q e → R e) → IfErr r P → IfErr r Q → IfErr r R
-if_err2 (Ok x) P Q R f a b = tt
-if_err2 (Err e) P Q R f a b = f e a b
-
-pub coord_idle_at : (p q : Parties) → p ≡ q → (d : ℕ) (m : Msg) → length p.coords ≤ coord_place d → (sends : Sends) (lines : List Line) → Acted (received q (coordinator d) m) q q sends sends lines lines
-coord_idle_at p q is d m past sends lines = subst (λ (r : Parties). Acted (received r (coordinator d) m) r r sends sends lines lines) is (idle (received p (coordinator d) m) (coord_outside p d m past) p sends lines)
-
-pub coord_acted_at : (p q : Parties) → p ≡ q → (d : ℕ) (m : Msg) (coords : List CoordNode) (committed : List (ℕ × List Entry)) (before after : Sends) → coord_place d < length p.coords
-    → ((x : CoordNode) → slice_get p.coords (coord_place d) ≡ Some x → CoordDid p d m coords committed before after x)
-    → (lines : List Line) → Acted (received q (coordinator d) m) q (with_coords p coords committed) before after lines lines
-coord_acted_at p q is d m coords committed before after within did lines =
-    subst (λ (r : Parties). Acted (received r (coordinator d) m) r (with_coords p coords committed) before after lines lines) is (coord_acted p d m coords committed before after within did lines)
-
-pub coord_refused_at : (p q : Parties) → p ≡ q → (d : ℕ) (m : Msg) (e : ActFault) → coord_place d < length p.coords
-    → ((x : CoordNode) → slice_get p.coords (coord_place d) ≡ Some x → Spends e (coord_row p.layout d x.durable x.volatile m)) → Refuses e (received q (coordinator d) m)
-coord_refused_at p q is d m e within did = subst (λ (r : Parties). Refuses e (received r (coordinator d) m)) is (coord_refused p d m e within did)
-
-pub client_acted_at : (p q : Parties) → p ≡ q → (t : ℕ) (does : Parties → Client → ClientAct) (clients : List (ℕ × Client)) (before after : Sends) (lines_before lines_after : List Line)
-    → (found nat_cmp p.clients t ≡ None → (clients ≡ p.clients) × (after ≡ before) × (lines_after ≡ lines_before))
-    → ((x : Client) → found nat_cmp p.clients t ≡ Some x → ClientDid p t (does p) clients before after lines_before lines_after x)
-    → Acted (commanded q t (does q)) q (with_clients p clients) before after lines_before lines_after
-client_acted_at p q is t does clients before after lines_before lines_after outside did =
-    subst (λ (r : Parties). Acted (commanded r t (does r)) r (with_clients p clients) before after lines_before lines_after) is (client_acted p t (does p) clients before after lines_before lines_after outside did)
-
-pub client_refused_at : (p q : Parties) → p ≡ q → (t : ℕ) (does : Parties → Client → ClientAct) (e : ActFault) → (found nat_cmp p.clients t ≡ None → e ≡ NoMemory)
-    → ((x : Client) → found nat_cmp p.clients t ≡ Some x → Wears e (does p x)) → Refuses e (commanded q t (does q))
-client_refused_at p q is t does e outside did = subst (λ (r : Parties). Refuses e (commanded r t (does r))) is (client_refused p t (does p) e outside did)
-
-pub shard_idle_at : (p q : Parties) → p ≡ q → (d s : ℕ) (m : Msg) → length p.shards ≤ shard_place p.layout d s → (sends : Sends) (lines : List Line) → Acted (received q (shard_server d s) m) q q sends sends lines lines
-shard_idle_at p q is d s m past sends lines = subst (λ (r : Parties). Acted (received r (shard_server d s) m) r r sends sends lines lines) is (idle (received p (shard_server d s) m) (shard_past p d s m past) p sends lines)
-
-pub no_shard_at : (p q : Parties) → p ≡ q → (d s : ℕ) (m : Msg) → p.layout.shards < s → (sends : Sends) (lines : List Line) → Acted (received q (shard_server d s) m) q q sends sends lines lines
-no_shard_at p q is d s m past sends lines =
-    let no_such : is_shard p.layout s ≡ false = grind (arith, nat_tests) in
-    subst (λ (r : Parties). Acted (received r (shard_server d s) m) r r sends sends lines lines) is (idle (received p (shard_server d s) m) (no_such_shard p d s m no_such) p sends lines)
-
-pub shard_acted_at : (p q : Parties) → p ≡ q → (d s : ℕ) (m : Msg) (shards : List ShardNode) (before after : Sends) → 1 ≤ s → s ≤ p.layout.shards → shard_place p.layout d s < length p.shards
-    → ((x : ShardNode) → slice_get p.shards (shard_place p.layout d s) ≡ Some x → ShardDid p d s m shards before after x)
-    → (lines : List Line) → Acted (received q (shard_server d s) m) q (with_shards p shards) before after lines lines
-shard_acted_at p q is d s m shards before after low high within did lines =
-    let such : is_shard p.layout s ≡ true = grind (arith, nat_tests) in
-    subst (λ (r : Parties). Acted (received r (shard_server d s) m) r (with_shards p shards) before after lines lines) is (shard_acted p d s m shards before after such within did lines)
+-- RESULTS
+pub if_ok2 : {T E : Type 0} (r : Result T E) (P Q R : T → Type 0) → ((x : T) → P x → Q x → R x) → IfOk r P → IfOk r Q → IfOk r R
+if_ok2 (Ok x) P Q R f a b = f x a b
+if_ok2 (Err e) P Q R f a b = tt

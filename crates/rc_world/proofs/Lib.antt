@@ -1,4 +1,11 @@
 pub mod Takes
+pub mod Spent
+pub mod Sites
 pub mod Logs
 pub mod Deeds
-pub mod Settling
+pub mod ShardDeeds
+pub mod LineFacts
+pub mod Shown
+pub mod Events
+pub mod Happenings
+pub mod NewSessions

@@ -1,110 +1,170 @@
--- What a call on the parties of a world did.
-use Rattle.std.specs.Prelude.{◌≡◌, ◌++◌, ◌+◌, ◌<◌, ℕ, Bool, nat_lt, nat_le, ◌&&◌, if◌then◌else◌, false, List, Option, None, Some, true, false, IsSome, length, slice_get, Result, Ok, Err}
+-- All that act, with the disks of the nodes, and what a deed leaves of them.
+use Rattle.std.specs.Prelude.{◌≡◌, ℕ, ◌++◌, Bool, true, false, List, [], Option, Some, None, slice_get, slice_set}
+use Rattle.std.specs.Ordering.{nat_cmp}
+use Rattle.rc_ids.specs.Tables.{Table, found, maybe}
+use Rattle.rc_ids.specs.declared.names.Party.{Party}
+use Rattle.rc_ids.specs.declared.names.Party.TheVariants.{Node, Client as ClientOf}
+use Rattle.rc_ids.specs.Cluster.{Layout}
+use Rattle.rc_ids.specs.declared.names.NodeId.{NodeId}
+use Rattle.rc_ids.specs.declared.names.NodeId.TheVariants.{Coord, Shard as ShardServer}
+use Rattle.rc_body.specs.declared.entry.Entry.{Entry}
+use Rattle.rc_msg.specs.declared.msg.Envelope.{Envelope}
+use Rattle.rc_report.specs.declared.line.Line.{Line}
+use Rattle.rc_report.specs.declared.fault.Which.TheVariants.{Version, Ballots}
 use Rattle.rc_client.specs.declared.fault.ClientFault.{ClientFault}
 use Rattle.rc_client.specs.declared.fault.ClientFault.TheVariants.{NoMemory as ClientNoMemory, KeyWornOut}
 use Rattle.rc_coord.specs.declared.fault.CoordFault.{CoordFault}
 use Rattle.rc_coord.specs.declared.fault.CoordFault.TheVariants.{NoMemory as CoordNoMemory, BallotsSpent as CoordSpent}
-use Rattle.rc_world.specs.declared.fault.ActFault.{ActFault}
-use Rattle.rc_world.specs.declared.fault.ActFault.TheVariants.{NoMemory as ActNoMemory, VersionSpent, BallotsSpent, NetworkFull}
-use Rattle.rc_ids.specs.declared.names.Party.{Party}
-use Rattle.rc_msg.specs.declared.msg.Envelope.{Envelope}
-use Rattle.rc_record.specs.declared.record.Record.{Record}
-use Rattle.rc_report.specs.declared.line.Line.{Line}
-use Rattle.rc_report.specs.declared.fault.Which.{Which}
-use Rattle.rc_report.specs.declared.fault.Which.TheVariants.{Version, Ballots, Messages, Transactions, Events}
 use Rattle.rc_protocol.specs.declared.event.Event.{Event}
+use Rattle.rc_protocol.specs.declared.event.Event.TheVariants.{Read, Write, Commit, Cancel, Retry, Vanish, Deliver}
 use Rattle.rc_protocol.specs.Messages.{Sends}
+use Rattle.rc_protocol.specs.Client.{Client, ClientAct, do_read, do_write, do_commit, do_cancel, do_retry, do_vanish, client_row, is_open}
 use Rattle.rc_protocol.specs.Coordinator.{CoordAct}
-use Rattle.rc_protocol.specs.Client.{ClientAct}
-use Rattle.rc_protocol.specs.World.{Parties, CoordNode, Deed, moved, sends_of, lines_of, worn_out, coord_after, envelopes, numbers_after, most_messages, most_transactions, most_events, begins}
-use Rattle.rc_protocol.specs.Text.{Halt, Misnamed, Limited}
-use Rattle.rc_world.specs.declared.fault.WorldFault.{WorldFault}
-use Rattle.rc_world.specs.declared.fault.WorldFault.TheVariants.{NoMemory, Limit, Naming}
+use Rattle.rc_protocol.specs.Shard.{ShardAct}
+use Rattle.rc_protocol.specs.Nodes.{coord_place, shard_place}
+use Rattle.rc_protocol.specs.Votes.{ordered}
+use Rattle.rc_protocol.specs.World.{Parties, Deed, Course, along, moved, sends_of, lines_of, message, new_start, coord_does, shard_does, client_does}
+use Rattle.rc_protocol.specs.Refusals.{is_full, worn_out}
+use Rattle.rc_protocol.specs.Devices.{Device, appended}
+use Rattle.rc_protocol.specs.Session.{DiskWork, no_device, no_work, append_of, append_work}
+use Rattle.rc_world.specs.declared.fault.ActFault.{ActFault}
+use Rattle.rc_world.specs.declared.fault.ActFault.TheVariants.{NoMemory, VersionSpent, BallotsSpent}
+use Rattle.rc_world.specs.Hosts.{CoordSite, ShardSite, coord_nodes, coord_devices, shard_nodes, shard_devices, coord_act, shard_act, coord_left, shard_left, course_for, device_for, record_left, sends_left, lines_left}
+
+-- the parties, and the disks in the places of their nodes
+pub record Housed : Type 0 where
+  pub parties : Parties
+  pub coords : List Device
+  pub shards : List Device
 
 abbrev pub fault_of_client : ClientFault → ActFault
-fault_of_client ClientNoMemory = ActNoMemory
+fault_of_client ClientNoMemory = NoMemory
 fault_of_client KeyWornOut = VersionSpent
 
 abbrev pub fault_of_coord : CoordFault → ActFault
-fault_of_coord CoordNoMemory = ActNoMemory
+fault_of_coord CoordNoMemory = NoMemory
 fault_of_coord CoordSpent = BallotsSpent
 
-abbrev pub fault_of_act : ActFault → WorldFault
-fault_of_act ActNoMemory = NoMemory
-fault_of_act VersionSpent = Limit Version
-fault_of_act BallotsSpent = Limit Ballots
-fault_of_act NetworkFull = Limit Messages
+abbrev pub housed : Layout → List CoordSite → List ShardSite → Table ℕ Client → List (ℕ × List Entry) → Housed
+housed c coords shards clients committed = record {
+  parties = record { layout = c; start = new_start; coords = coord_nodes coords; shards = shard_nodes shards; clients = clients; committed = committed };
+  coords = coord_devices coords;
+  shards = shard_devices shards;
+}
 
--- the deed was done: the parties are as after it, and what it sends and prints was added
-pub record Acted (deed : Deed) (old new : Parties) (before after : Sends) (lines_before lines_after : List Line) : Type 0 where
-  pub parties : new ≡ moved old deed
-  pub sends : after ≡ before ++ sends_of deed
-  pub lines : lines_after ≡ lines_before ++ lines_of deed
-  pub whole : worn_out deed ≡ None
+-- DISKS
+abbrev pub disk_at : Housed → NodeId → Device
+disk_at h (Coord d) = maybe (slice_get h.coords (coord_place d)) no_device (λ x. x)
+disk_at h (ShardServer d s) = maybe (slice_get h.shards (shard_place h.parties.layout d s)) no_device (λ x. x)
+
+abbrev pub with_disk : Housed → NodeId → Device → List Device × List Device
+with_disk h (Coord d) x = (slice_set h.coords (coord_place d) x, h.shards)
+with_disk h (ShardServer d s) x = (h.coords, slice_set h.shards (shard_place h.parties.layout d s) x)
+
+-- what the deed asks of a disk
+abbrev pub deed_work : Housed → Deed → DiskWork
+deed_work h deed = maybe (append_of deed) no_work (λ a. append_work a.0 (appended (disk_at h a.0) a.1))
+
+abbrev pub disks_after : Housed → DiskWork → Option (List Device × List Device)
+disks_after h work = maybe work.node (Some (h.coords, h.shards)) (λ node. maybe work.device None (λ x. Some (with_disk h node x)))
+
+-- the deed was done as its append went: parties and disks are as after it, and so is what was sent and printed
+pub record Acted (deed : Deed) (work : DiskWork) (old new : Housed) (out : Sends) (lines printed : List Line) : Type 0 where
+  pub parties : new.parties ≡ moved old.parties (along work.course deed)
+  pub disks : disks_after old work ≡ Some (new.coords, new.shards)
+  pub sends : out ≡ sends_of (along work.course deed)
+  pub prints : printed ≡ lines ++ lines_of (along work.course deed)
+  pub whole : worn_out (along work.course deed) ≡ None
 
 -- a refusal of the deed: but for want of memory it is worn out
 abbrev pub Refuses : ActFault → Deed → Type 0
-Refuses ActNoMemory deed = Unit {0}
-Refuses VersionSpent deed = worn_out deed ≡ Some Version
-Refuses BallotsSpent deed = worn_out deed ≡ Some Ballots
-Refuses NetworkFull deed = ⊥
+Refuses NoMemory deed = Unit {0}
+Refuses VersionSpent deed = (course : Course) → worn_out (along course deed) ≡ Some Version
+Refuses BallotsSpent deed = (course : Course) → worn_out (along course deed) ≡ Some Ballots
 
--- where in the log the act's record stands, if it has one
-abbrev pub LogGrew : Option ℕ → List Record → Option Record → Type 0
-LogGrew None log logs = logs ≡ None
-LogGrew (Some place) log logs = (place < length log) × (slice_get log place ≡ logs) × IsSome logs
-
--- what a message did to the coordinator of its datacentre
-pub record CoordActed (act : CoordAct) (old new : CoordNode) (before after : Sends) : Type 0 where
-  pub node : new ≡ coord_after old act
-  pub sends : after ≡ before ++ act.sends
+-- NODES
+-- an act of a node at its disk
+pub record CoordDone (c : Layout) (d : ℕ) (act : CoordAct) (old new : CoordSite) (out : Sends) (lines printed : List Line) : Type 0 where
+  pub node : new.node ≡ coord_left (course_for act.logs old.device) old.node act
+  pub device : device_for act.logs old.device ≡ Some new.device
+  pub sends : out ≡ sends_left (course_for act.logs old.device) act.logs act.sends
+  pub prints : printed ≡ lines ++ lines_left (Coord d) (course_for act.logs old.device) act.logs
   pub whole : act.spent ≡ false
 
--- a coordinator refuses a message for want of ballots alone
-abbrev pub Spends : ActFault → CoordAct → Type 0
-Spends ActNoMemory act = Unit {0}
-Spends BallotsSpent act = act.spent ≡ true
-Spends VersionSpent act = ⊥
-Spends NetworkFull act = ⊥
+-- among all coordinators
+pub record CoordDid (c : Layout) (d : ℕ) (act : CoordAct) (site : CoordSite) (old new : List CoordSite) (before after : List (ℕ × List Entry)) (out : Sends) (lines printed : List Line) : Type 0 where
+  pub left : CoordSite
+  pub done : CoordDone c d act site left out lines printed
+  pub sites : new ≡ slice_set old (coord_place d) left
+  pub committed : after ≡ ordered c (coord_nodes new) [] before (record_left (course_for act.logs site.device) act.logs)
+
+-- a coordinator that is not up
+pub record CoordIdle (old new : List CoordSite) (before after : List (ℕ × List Entry)) (out : Sends) (lines printed : List Line) : Type 0 where
+  pub sites : new ≡ old
+  pub committed : after ≡ before
+  pub sends : out ≡ []
+  pub prints : printed ≡ lines
+
+-- a coordinator refuses an act for want of ballots alone, and then makes no record
+abbrev pub Lacking : ActFault → CoordAct → Type 0
+Lacking NoMemory act = Unit {0}
+Lacking BallotsSpent act = (act.spent ≡ true) × (act.logs ≡ None)
+Lacking VersionSpent act = ⊥
+
+pub record ShardDone (d s : ℕ) (act : ShardAct) (old new : ShardSite) (out : Sends) (lines printed : List Line) : Type 0 where
+  pub node : new.node ≡ shard_left (course_for act.logs old.device) old.node act
+  pub device : device_for act.logs old.device ≡ Some new.device
+  pub sends : out ≡ sends_left (course_for act.logs old.device) act.logs act.sends
+  pub prints : printed ≡ lines ++ lines_left (ShardServer d s) (course_for act.logs old.device) act.logs
+
+pub record ShardDid (d s place : ℕ) (act : ShardAct) (site : ShardSite) (old new : List ShardSite) (out : Sends) (lines printed : List Line) : Type 0 where
+  pub left : ShardSite
+  pub done : ShardDone d s act site left out lines printed
+  pub sites : new ≡ slice_set old place left
+
+pub record ShardIdle (old new : List ShardSite) (out : Sends) (lines printed : List Line) : Type 0 where
+  pub sites : new ≡ old
+  pub sends : out ≡ []
+  pub prints : printed ≡ lines
+
+-- CLIENTS
+abbrev pub client_stays : Client → ClientAct
+client_stays x = record { after = x; sends = []; lines = []; worn = false }
+
+-- what the client does in the event, where it takes part
+abbrev pub client_act : Layout → ℕ → List Envelope → Event → Client → ClientAct
+client_act c t sent (Read u k) x = do_read c t x k
+client_act c t sent (Write u k value) x = do_write x k value
+client_act c t sent (Commit u) x = do_commit c t x
+client_act c t sent (Cancel u k) x = do_cancel c t x k
+client_act c t sent (Retry u) x = do_retry c t x
+client_act c t sent (Vanish u) x = do_vanish x
+client_act c t sent (Deliver n) x = maybe (message sent n) (client_stays x) (λ e. client_row c t x e.msg)
+client_act c t sent e x = client_stays x
+
+-- the client takes the command
+abbrev pub May : Event → Client → Type 0
+May (Read u k) x = is_full x k ≡ false
+May (Write u k value) x = (is_open x.phase ≡ true) × (is_full x k ≡ false)
+May e x = Unit {0}
 
 -- a client refuses for a version that is worn out alone
 abbrev pub Wears : ActFault → ClientAct → Type 0
-Wears ActNoMemory act = Unit {0}
+Wears NoMemory act = Unit {0}
 Wears VersionSpent act = act.worn ≡ true
 Wears BallotsSpent act = ⊥
-Wears NetworkFull act = ⊥
 
--- an event or a command was refused as the run says, but for want of memory
-abbrev pub Halts : {A : Type 0} → WorldFault → Result A Halt → Type 0
-Halts NoMemory went = Unit {0}
-Halts (Limit which) went = went ≡ Err (Limited which)
-Halts (Naming name) went = went ≡ Err (Misnamed name)
+-- what the party does in the event, where it takes part
+abbrev pub does_by : Parties → List Envelope → Event → Party → Deed
+does_by p sent e (Node (Coord d)) = coord_does p d (coord_act p.layout d sent e)
+does_by p sent e (Node (ShardServer d s)) = shard_does p d s (shard_act p.layout d s sent e)
+does_by p sent e (ClientOf t) = client_does p t (client_act p.layout t sent e)
 
--- the messages of the deed do not fit
-abbrev pub overflows : List Envelope → Deed → Bool
-overflows sent deed = nat_lt most_messages (length sent + length (sends_of deed))
+-- the party takes what the event asks of it
+abbrev pub MayAct : Parties → Party → Event → Type 0
+MayAct p (Node node) e = Unit {0}
+MayAct p (ClientOf t) e = (x : Client) → found nat_cmp p.clients t ≡ Some x → May e x
 
--- what a deed did to parties and network, where it was neither worn out nor too much for the network
-pub record Performed (deed : Deed) (from : Party) (old new : Parties) (sent_before sent_after : List Envelope) (pending_before pending_after : List ℕ) (lines_before lines_after : List Line) : Type 0 where
-  pub whole : worn_out deed ≡ None
-  pub fits : overflows sent_before deed ≡ false
-  pub parties : new ≡ moved old deed
-  pub sent : sent_after ≡ sent_before ++ envelopes from (sends_of deed)
-  pub pending : pending_after ≡ pending_before ++ numbers_after (length sent_before) (sends_of deed)
-  pub lines : lines_after ≡ lines_before ++ lines_of deed
-
--- why it was not done
-abbrev pub Forbids : ActFault → List Envelope → Deed → Type 0
-Forbids ActNoMemory sent deed = Unit {0}
-Forbids VersionSpent sent deed = worn_out deed ≡ Some Version
-Forbids BallotsSpent sent deed = worn_out deed ≡ Some Ballots
-Forbids NetworkFull sent deed = (worn_out deed ≡ None) × (overflows sent deed ≡ true)
-
--- the limit that an event passes before anybody acts
-abbrev pub early_limit : Event → ℕ → ℕ → Option Which
-early_limit e clients events = if begins e && nat_le most_transactions clients then Some Transactions else (if nat_le most_events events then Some Events else None)
-
--- texts in front of those that come
-abbrev pub in_front : List (List ℕ) → Result (List (List ℕ)) Halt → Result (List (List ℕ)) Halt
-in_front texts (Ok more) = Ok (texts ++ more)
-in_front texts (Err halt) = Err halt
+-- whether the key, if there is one, would be one too many
+abbrev pub is_full_for : Option (List ℕ) → Client → Bool
+is_full_for key x = maybe key false (is_full x)

@@ -1,8 +1,10 @@
-// Why an event is refused.
+// Why an event does not happen.
 ghost use Rattle.std.specs.Prelude.{◌≡◌};
-ghost use Rattle.rc_world.specs.declared.fault.WorldFault.TheVariants.{NoMemory as OutOfMemory};
+ghost use Rattle.rc_world.specs.declared.fault.SessionFault.TheVariants.{NoMemory as OutOfMemory};
 ghost use Rattle.rc_world.specs.declared.fault.ActFault.TheVariants.{NoMemory as ActOutOfMemory};
-ghost use Rattle.rc_world.specs.Acted.{fault_of_client, fault_of_coord, fault_of_act};
+ghost use Rattle.rc_world.specs.Acted.{fault_of_client, fault_of_coord};
+ghost use Rattle.rc_world.specs.Sessions.{fault_of_act, fault_of_limit};
+ghost use Rattle.rc_world.specs.declared.fault.LimitFault.TheVariants.{NoMemory as LimitOutOfMemory};
 
 use rc_client::ClientFault;
 use rc_coord::CoordFault;
@@ -10,38 +12,38 @@ use rc_ids::NoMemory;
 use rc_report::{Which, Wrong};
 use std::alloc::{AllocError, AllocFailed};
 
-/// Why an event is refused. After `Naming` the world is as before, after the others it is spent.
+/// Why a line of a script ends early.
 #[derive(Clone, Copy, Debug, PartialEq, Eq)]
-pub enum WorldFault {
-    /// There was no memory for the event.
+pub enum SessionFault {
+    /// There was no memory.
     NoMemory,
-    /// The event would pass a limit.
-    Limit(Which),
-    /// The event names something wrongly.
+    /// It names something wrongly.
     Naming(Wrong),
+    /// It would pass a limit.
+    Limit(Which),
 }
 
-impl From<NoMemory> for WorldFault {
+impl From<NoMemory> for SessionFault {
     ghost from_gives = { λ _ e. e ≡ OutOfMemory };
 
     fn from(_: NoMemory) -> Self {
-        WorldFault::NoMemory
+        SessionFault::NoMemory
     }
 }
 
-impl From<AllocError> for WorldFault {
+impl From<AllocError> for SessionFault {
     ghost from_gives = { λ _ e. e ≡ OutOfMemory };
 
     fn from(_: AllocError) -> Self {
-        WorldFault::NoMemory
+        SessionFault::NoMemory
     }
 }
 
-impl<T: Drop> From<AllocFailed<T>> for WorldFault {
+impl<T: Drop> From<AllocFailed<T>> for SessionFault {
     ghost from_gives = { λ _ e. e ≡ OutOfMemory };
 
     fn from(_: AllocFailed<T>) -> Self {
-        WorldFault::NoMemory
+        SessionFault::NoMemory
     }
 }
 
@@ -54,8 +56,6 @@ pub(crate) enum ActFault {
     VersionSpent,
     /// No ballot is left.
     BallotsSpent,
-    /// The messages would pass their limit.
-    NetworkFull,
 }
 
 impl From<NoMemory> for ActFault {
@@ -88,15 +88,42 @@ impl From<CoordFault> for ActFault {
     }
 }
 
-impl From<ActFault> for WorldFault {
+/// Why an event that names nothing wrongly does not happen.
+#[derive(Clone, Copy, Debug, PartialEq, Eq)]
+pub(crate) enum LimitFault {
+    /// There was no memory.
+    NoMemory,
+    /// It would pass a limit.
+    Limit(Which),
+}
+
+impl From<NoMemory> for LimitFault {
+    ghost from_gives = { λ _ e. e ≡ LimitOutOfMemory };
+
+    fn from(_: NoMemory) -> Self {
+        LimitFault::NoMemory
+    }
+}
+
+impl From<ActFault> for LimitFault {
     ghost from_gives = { λ fault e. e ≡ fault_of_act fault };
 
     fn from(fault: ActFault) -> Self {
         match fault {
-            ActFault::NoMemory => WorldFault::NoMemory,
-            ActFault::VersionSpent => WorldFault::Limit(Which::Version),
-            ActFault::BallotsSpent => WorldFault::Limit(Which::Ballots),
-            ActFault::NetworkFull => WorldFault::Limit(Which::Messages),
+            ActFault::NoMemory => LimitFault::NoMemory,
+            ActFault::VersionSpent => LimitFault::Limit(Which::Version),
+            ActFault::BallotsSpent => LimitFault::Limit(Which::Ballots),
+        }
+    }
+}
+
+impl From<LimitFault> for SessionFault {
+    ghost from_gives = { λ fault e. e ≡ fault_of_limit fault };
+
+    fn from(fault: LimitFault) -> Self {
+        match fault {
+            LimitFault::NoMemory => SessionFault::NoMemory,
+            LimitFault::Limit(which) => SessionFault::Limit(which),
         }
     }
 }

@@ -1,13 +1,21 @@
-//! A world of nodes, clients and the network between them: one event on all, and the run of a script.
+//! A world of nodes with their disks, clients and the network between them: one event on all, and the lines of a script.
 #![tactic(auto)]
 
+mod clients;
+mod coord_host;
+mod coords;
+mod disk;
 mod fault;
+mod lengths;
+mod lines;
 mod network;
 mod order;
 mod parties;
-mod run;
+mod session;
+mod shard_host;
+mod shards;
+mod starts;
 mod world;
 
-pub use fault::WorldFault;
-pub use run::texts;
-pub use world::World;
+pub use fault::SessionFault;
+pub use session::Session;

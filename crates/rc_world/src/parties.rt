@@ -1,37 +1,40 @@
-// All that act: nodes and clients, and the order of what their votes chose.
-ghost use Rattle.std.specs.Prelude.{◌≡◌, ◌≢◌, ◌≤◌, ◌+◌, ◌<◌, ◌++◌, [], Some, None, true, false, OnOk, IfOk, IfErr, MatchOption, IsTrue, length, slice_get, slice_set};
-ghost use Rattle.std.specs.Ordering.{nat_cmp};
-ghost use Rattle.rc_ids.specs.Cluster.{is_dc, is_shard};
-ghost use Rattle.rc_ids.specs.Tables.{found, put};
-ghost use Rattle.rc_protocol.specs.Shard.{shard_row};
-ghost use Rattle.rc_protocol.specs.Coordinator.{coord_row};
-ghost use Rattle.rc_protocol.specs.Client.{client_row, do_read, do_write, do_commit};
-ghost use Rattle.rc_protocol.specs.World.{coord_place, shard_place, coord_after, shard_after, ordered, replaced, is_full};
-ghost use Rattle.std.specs.Prelude.{Option};
-ghost use Rattle.std.specs.Option.{ForSome};
-ghost use Rattle.rc_record.specs.declared.record.Record.{Record};
-ghost use Rattle.rc_protocol.specs.World.{CoordNode};
-ghost use Rattle.rc_protocol.specs.World.{ShardNode};
-ghost use Rattle.rc_protocol.specs.Client.{Client as ClientState};
-ghost use Rattle.rc_world.specs.declared.fault.ActFault.TheVariants.{NoMemory as OutOfMemory};
-ghost use Rattle.std.specs.Prelude.{ℕ, List, map};
+// All that act: nodes with their disks, clients, and the order of what the votes chose.
+ghost use Rattle.std.specs.Prelude.{◌≡◌, ◌+◌, ◌<◌, ◌++◌, ℕ, [], Some, None, true, false, IsTrue, OnOk, IfOk, IfErr, List, length, map, slice_get, nat_le, ◌-◌, ◌*◌, ◌&&◌, if◌then◌else◌, Ok};
 ghost use Rattle.std.specs.Option.{option_copied};
-ghost use Rattle.rc_report.specs.declared.line.Line.{Line};
+ghost use Rattle.std.specs.Ordering.{nat_cmp};
+ghost use Rattle.rc_ids.specs.Cluster.{is_dc};
+ghost use Rattle.rc_ids.specs.Tables.{found, maybe};
+ghost use Rattle.rc_protocol.specs.Nodes.{coord_place};
+ghost use Rattle.rc_protocol.specs.Refusals.{named_wrongly, is_begun as is_begun_lem};
 ghost use Rattle.rc_body.specs.declared.entry.Entry.{Entry};
-ghost use Rattle.rc_protocol.specs.Messages.{Sends, coordinator, shard_server, client_of};
-ghost use Rattle.std.specs.Prelude.{replicate, ◌*◌};
-ghost use Rattle.rc_protocol.specs.World.{new_parties, new_coord, new_shard, received, commanded, with_new_client};
-ghost use Rattle.rc_world.specs.Acted.{LogGrew, CoordActed, Wears, Spends, Acted, Refuses};
+ghost use Rattle.rc_protocol.specs.Client.{Client as ClientState};
+ghost use Rattle.rc_protocol.specs.World.{coord_does, shard_does, client_does, with_new_client, is_up as is_up_lem, stops, restarts, moved, sends_of};
+ghost use Rattle.rc_protocol.specs.Devices.{powered, armed, opened_once};
+ghost use Rattle.std.specs.List.{flat_map};
+ghost use Rattle.std.specs.Prelude.{◌≤◌};
+ghost use Rattle.rc_ids.specs.Tables.{up_to};
+ghost use Rattle.rc_protocol.specs.Script.{shown_lines};
+ghost use Rattle.rc_world.specs.Lines.{host_at, shown_at};
+ghost use Rattle.rc_protocol.specs.Stored.{in_memory, new_session};
+ghost use Rattle.rc_world.specs.Networks.{new_network};
+ghost use Rattle.rc_world.specs.Starts.{coord_sites, shard_sites};
+ghost use Rattle.rc_world.specs.Sessions.{session_of};
+ghost use Rattle.rc_world.specs.Hosts.{coord_act, shard_act, coord_nodes, shard_nodes};
+ghost use Rattle.rc_world.specs.Acted.{housed, does_by, deed_work, disk_at, with_disk, client_act, Acted, Refuses, May, MayAct, is_full_for};
 
+use crate::clients::client_acts;
+use crate::coord_host::CoordHost;
+use crate::coords::coord_acts;
 use crate::fault::ActFault;
-use crate::order::note;
+use crate::shard_host::ShardHost;
+use crate::shards::shard_acts;
+use crate::starts::{new_coords, new_shards};
 use rc_body::Body;
-use rc_client::Client;
-use rc_coord::Coord;
-use rc_ids::{Cluster, DcId, Key, NoMemory, NodeId, Party, ShardId, TxId, Val};
-use rc_msg::{Msg, Outbox};
-use rc_report::Lines;
-use rc_shard::Shard;
+use rc_client::{Client, Phase};
+use rc_ids::{Cluster, DcId, Key, NoMemory, NodeId, Party, ShardId, TxId};
+use rc_msg::{Envelope, Outbox};
+use rc_protocol::Event;
+use rc_report::{Lines, Wrong};
 use std::alloc::Global;
 use std::collections::BTreeMap;
 use std::marker::Model;
@@ -40,168 +43,217 @@ use std::marker::Model;
 #[derive(Drop)]
 pub(crate) struct Parties {
     cluster: Cluster,
-    coords: Vec<Coord>,
-    shards: Vec<Shard>,
+    coords: Vec<CoordHost>,
+    shards: Vec<ShardHost>,
     clients: BTreeMap<TxId, Client>,
     committed: Vec<(TxId, Body)>,
 }
 
 impl Model for Parties {
     ghost use Rattle.std.specs.Prelude.{◌≡◌, length};
-    ghost use Rattle.rc_protocol.specs.World.{Parties as PartiesState};
+    ghost use Rattle.rc_world.specs.Acted.{Housed};
 
-    ghost Value = { PartiesState };
+    ghost Value = { Housed };
 
-    ghost view = { λ p. record { layout = p.cluster; coords = p.coords.items; shards = p.shards.items; clients = p.clients.entries; committed = p.committed.items } };
+    ghost use Rattle.rc_world.specs.Acted.{housed};
+
+    ghost view = { λ p. housed p.cluster p.coords.items p.shards.items p.clients.entries p.committed.items };
 
     ghost invariant = { λ p. length p.coords.items ≡ p.cluster.dcs };
 }
 
 impl Parties {
-    /// New nodes, and no client.
+    /// New nodes, each with a created log on its disk, and no client.
     pub(crate) fn new(alloc: Global, cluster: Cluster) -> Result<Parties, NoMemory>
-        ensures { IfOk result (λ p. p ≡ new_parties cluster) }
+        ensures parties { IfOk result (λ p. p ≡ housed cluster (coord_sites cluster cluster.dcs) (shard_sites cluster cluster.dcs) [] []) }
+        ensures session { OnOk result (new_session in_memory cluster
+            ≡ Ok (session_of (housed cluster (coord_sites cluster cluster.dcs) (shard_sites cluster cluster.dcs) [] []) new_network 0 0)) }
     {
-        let dcs = cluster.dcs();
-        let shards = cluster.shards();
+        let coords = new_coords(alloc, &cluster)?;
+        let shards = new_shards(alloc, &cluster)?;
         Ok(Parties {
             cluster,
-            coords: new_coords(alloc, dcs)?,
-            shards: new_shards(alloc, dcs as usize * shards as usize)?,
+            coords,
+            shards,
             clients: BTreeMap::new(alloc),
             committed: Vec::new(alloc),
         })
     }
 
-    /// A coordinator handles a message.
-    fn coord_receives(&mut self, dc: DcId, msg: &Msg, out: &mut Outbox) -> Result<(), ActFault>
-        ensures done { OnOk result ((lines : List Line) → Acted (received self.old (coordinator dc) msg.now) self.old self.new out.old out.new lines lines) }
-        ensures refused { IfErr result (λ e. Refuses e (received self.old (coordinator dc) msg.now)) }
+    /// A coordinator does its part in an event.
+    pub(crate) fn coord_acts(
+        &mut self,
+        alloc: Global,
+        dc: DcId,
+        sent: &[Envelope],
+        event: &Event,
+        lines: &mut Lines,
+    ) -> Result<Outbox, ActFault>
+        ensures done { IfOk result (λ out. let deed = coord_does self.old.parties dc (coord_act self.old.parties.layout dc sent.now event.now) in
+            Acted deed (deed_work self.old deed) self.old self.new out lines.old lines.new) }
+        ensures refused { IfErr result (λ e. Refuses e (coord_does self.old.parties dc (coord_act self.old.parties.layout dc sent.now event.now))) }
     {
         if dc.0 as usize - 1 >= self.coords.len() {
-            return Ok(());
+            return Ok(Outbox::new(alloc));
         }
-        coord_handles(
+        coord_acts(
             &mut self.coords,
             &mut self.committed,
+            alloc,
             &self.cluster,
             dc,
-            msg,
-            out,
+            sent,
+            event,
+            lines,
         )
     }
 
-    /// A shard server handles a message.
-    fn shard_receives(
+    /// A shard server does its part in an event.
+    pub(crate) fn shard_acts(
         &mut self,
+        alloc: Global,
         dc: DcId,
         shard: ShardId,
-        msg: &Msg,
-        out: &mut Outbox,
-    ) -> Result<(), ActFault>
-        ensures done { OnOk result ((lines : List Line) → Acted (received self.old (shard_server dc shard) msg.now) self.old self.new out.old out.new lines lines) }
-        ensures refused { IfErr result (λ e. e ≡ OutOfMemory) }
+        sent: &[Envelope],
+        event: &Event,
+        lines: &mut Lines,
+    ) -> Result<Outbox, NoMemory>
+        ensures { IfOk result (λ out. let deed = shard_does self.old.parties dc shard (shard_act self.old.parties.layout dc shard sent.now event.now) in
+            Acted deed (deed_work self.old deed) self.old self.new out lines.old lines.new) }
     {
         let shards = self.cluster.shards();
         if shard.0 > shards {
-            return Ok(());
+            return Ok(Outbox::new(alloc));
         }
         let place = (dc.0 as usize - 1) * shards as usize + (shard.0 as usize - 1);
         if place >= self.shards.len() {
-            return Ok(());
+            return Ok(Outbox::new(alloc));
         }
-        shard_handles(&mut self.shards, place, dc, shard, msg, out)
+        shard_acts(
+            &mut self.shards,
+            place,
+            alloc,
+            &self.cluster,
+            dc,
+            shard,
+            sent,
+            event,
+            lines,
+        )
     }
 
-    /// A client handles a message.
-    fn client_receives(
+    /// A client does its part in an event.
+    pub(crate) fn client_acts(
         &mut self,
+        alloc: Global,
         tx: TxId,
-        msg: &Msg,
-        out: &mut Outbox,
+        sent: &[Envelope],
+        event: &Event,
         lines: &mut Lines,
-    ) -> Result<(), ActFault>
-        ensures done { OnOk result (Acted (received self.old (client_of tx) msg.now) self.old self.new out.old out.new lines.old lines.new) }
-        ensures refused { IfErr result (λ e. Refuses e (received self.old (client_of tx) msg.now)) }
+    ) -> Result<Outbox, ActFault>
+        requires { (x : ClientState) → found nat_cmp self.old.parties.clients tx ≡ Some x → May event.now x }
+        ensures done { IfOk result (λ out. let deed = client_does self.old.parties tx (client_act self.old.parties.layout tx sent.now event.now) in
+            Acted deed (deed_work self.old deed) self.old self.new out lines.old lines.new) }
+        ensures refused { IfErr result (λ e. Refuses e (client_does self.old.parties tx (client_act self.old.parties.layout tx sent.now event.now))) }
     {
-        client_handles(&mut self.clients, &self.cluster, tx, msg, out, lines)
+        client_acts(
+            &mut self.clients,
+            alloc,
+            &self.cluster,
+            tx,
+            sent,
+            event,
+            lines,
+        )
     }
+}
 
-    /// A party handles a message.
-    pub(crate) fn receive(
+impl Parties {
+    /// A party does its part in an event.
+    pub(crate) fn act(
         &mut self,
-        to: &Party,
-        msg: &Msg,
-        out: &mut Outbox,
+        alloc: Global,
+        party: &Party,
+        sent: &[Envelope],
+        event: &Event,
         lines: &mut Lines,
-    ) -> Result<(), ActFault>
-        ensures done { OnOk result (Acted (received self.old to.now msg.now) self.old self.new out.old out.new lines.old lines.new) }
-        ensures refused { IfErr result (λ e. Refuses e (received self.old to.now msg.now)) }
+    ) -> Result<Outbox, ActFault>
+        requires { MayAct self.old.parties party.now event.now }
+        ensures done { IfOk result (λ out. let deed = does_by self.old.parties sent.now event.now party.now in
+            Acted deed (deed_work self.old deed) self.old self.new out lines.old lines.new) }
+        ensures refused { IfErr result (λ e. Refuses e (does_by self.old.parties sent.now event.now party.now)) }
     {
-        match to {
-            Party::Node(NodeId::Coord(dc)) => self.coord_receives(*dc, msg, out),
-            Party::Node(NodeId::Shard(dc, shard)) => self.shard_receives(*dc, *shard, msg, out),
-            Party::Client(tx) => self.client_receives(*tx, msg, out, lines),
+        match party {
+            Party::Node(NodeId::Coord(dc)) => self.coord_acts(alloc, *dc, sent, event, lines),
+            Party::Node(NodeId::Shard(dc, shard)) => {
+                Ok(self.shard_acts(alloc, *dc, *shard, sent, event, lines)?)
+            }
+            Party::Client(tx) => self.client_acts(alloc, *tx, sent, event, lines),
         }
-    }
-
-    /// A client reads a key.
-    pub(crate) fn read(
-        &mut self,
-        tx: TxId,
-        key: &Key,
-        out: &mut Outbox,
-        lines: &mut Lines,
-    ) -> Result<(), ActFault>
-        requires { (x : ClientState) → found nat_cmp self.old.clients tx ≡ Some x → is_full x key.now ≡ false }
-        ensures done { OnOk result (Acted (commanded self.old tx (λ x. do_read self.old.layout tx x key.now)) self.old self.new out.old out.new lines.old lines.new) }
-        ensures refused { IfErr result (λ e. Refuses e (commanded self.old tx (λ x. do_read self.old.layout tx x key.now))) }
-    {
-        client_reads(&mut self.clients, &self.cluster, tx, key, out, lines)
-    }
-
-    /// A client buffers a write.
-    pub(crate) fn write(&mut self, tx: TxId, key: &Key, value: &Val) -> Result<(), ActFault>
-        requires { (x : ClientState) → found nat_cmp self.old.clients tx ≡ Some x → is_full x key.now ≡ false }
-        ensures done { OnOk result ((sends : Sends) (lines : List Line) → Acted (commanded self.old tx (λ x. do_write x key.now value.now)) self.old self.new sends sends lines lines) }
-        ensures refused { IfErr result (λ e. Refuses e (commanded self.old tx (λ x. do_write x key.now value.now))) }
-    {
-        client_writes(&mut self.clients, tx, key, value)
-    }
-
-    /// A client commits.
-    pub(crate) fn commit(&mut self, tx: TxId, out: &mut Outbox) -> Result<(), ActFault>
-        ensures done { OnOk result ((lines : List Line) → Acted (commanded self.old tx (do_commit self.old.layout tx)) self.old self.new out.old out.new lines lines) }
-        ensures refused { IfErr result (λ e. Refuses e (commanded self.old tx (do_commit self.old.layout tx))) }
-    {
-        client_commits(&mut self.clients, &self.cluster, tx, out)
     }
 
     /// A transaction begins with a new client.
     pub(crate) fn begin(&mut self, alloc: Global, tx: TxId) -> Result<(), NoMemory>
-        ensures { OnOk result (self.new ≡ with_new_client self.old tx) }
+        ensures parties { OnOk result (self.new.parties ≡ with_new_client self.old.parties tx) }
+        ensures coords { OnOk result (self.new.coords ≡ self.old.coords) }
+        ensures shards { OnOk result (self.new.shards ≡ self.old.shards) }
     {
         self.clients.insert(tx, Client::new(alloc))?;
         Ok(())
     }
 
-    /// The client of a transaction.
-    pub(crate) fn client(&self, tx: TxId) -> Option<&Client>
-        ensures { option_copied result ≡ found nat_cmp self.now.clients tx }
+    /// What is wrong with the name of a transaction whose client is to take a command.
+    pub(crate) fn misnamed(&self, tx: TxId, wants_open: bool, key: Option<&Key>) -> Option<Wrong>
+        ensures { result ≡ named_wrongly self.now.parties tx wants_open (is_full_for (option_copied key.entry)) }
     {
-        self.clients.get(&tx)
+        let Some(client) = self.clients.get(&tx) else {
+            return Some(Wrong::NotBegun(tx));
+        };
+        if client.phase() == Phase::Vanished {
+            return Some(Wrong::Vanished(tx));
+        }
+        if !client.is_open() {
+            return if wants_open {
+                Some(Wrong::NotOpen(tx))
+            } else {
+                None
+            };
+        }
+        match key {
+            Some(key) if client.is_full(key) => Some(Wrong::TooManyKeys(tx)),
+            _ => None,
+        }
+    }
+
+    /// Whether the transaction was begun.
+    pub(crate) fn is_begun(&self, tx: TxId) -> bool
+        ensures { result ≡ is_begun_lem self.now.parties tx }
+    {
+        self.clients.contains_key(&tx)
+    }
+
+    /// Whether the node is up.
+    pub(crate) fn is_up(&self, node: &NodeId) -> bool
+        ensures { result ≡ is_up_lem self.now.parties node.now }
+    {
+        match node {
+            NodeId::Coord(dc) => coord_is_up(self.coords.as_slice(), *dc),
+            NodeId::Shard(dc, shard) => {
+                shard_is_up(self.shards.as_slice(), self.cluster.shards(), *dc, *shard)
+            }
+        }
     }
 
     /// How many transactions were begun.
     pub(crate) fn count(&self) -> usize
-        ensures { result ≡ length self.now.clients }
+        ensures { result ≡ length self.now.parties.clients }
     {
         self.clients.len()
     }
 
     /// The committed transactions, in order.
     pub(crate) fn order(&self, alloc: Global) -> Result<Vec<TxId>, NoMemory>
-        ensures { IfOk result (λ txs. txs.items ≡ map (λ (x : ℕ × List Entry). x.0) self.now.committed) }
+        ensures { IfOk result (λ txs. txs.items ≡ map (λ (x : ℕ × List Entry). x.0) self.now.parties.committed) }
     {
         let mut txs = Vec::new(alloc);
         for (tx, _) in &self.committed {
@@ -211,208 +263,91 @@ impl Parties {
     }
 }
 
-/// A coordinator handles a message; where its record stands in the log, if it wrote one.
-fn handle_at(
-    coord: &mut Coord,
-    cluster: &Cluster,
-    dc: DcId,
-    msg: &Msg,
-    out: &mut Outbox,
-) -> Result<Option<usize>, ActFault>
-    requires { IsTrue (is_dc cluster.now dc) }
-    ensures done { OnOk result (CoordActed (coord_row cluster.now dc coord.old.durable coord.old.volatile msg.now) coord.old coord.new out.old out.new) }
-    ensures logs { IfOk result (λ place. LogGrew place coord.new.log (coord_row cluster.now dc coord.old.durable coord.old.volatile msg.now).logs) }
-    ensures spent { IfErr result (λ e. Spends e (coord_row cluster.now dc coord.old.durable coord.old.volatile msg.now)) }
-{
-    let before = coord.log_len();
-    coord.handle(cluster, dc, msg, out)?;
-    if coord.log_len() > before {
-        Ok(Some(before))
-    } else {
-        Ok(None)
+impl Parties {
+    /// Adds the lines that show a datacentre's shards.
+    pub(crate) fn push_shown(
+        &self,
+        alloc: Global,
+        dc: DcId,
+        lines: &mut Lines,
+    ) -> Result<(), NoMemory>
+        ensures { OnOk result (lines.new ≡ lines.old ++ shown_lines self.now.parties dc) }
+    {
+        show_all(
+            self.shards.as_slice(),
+            alloc,
+            self.cluster.shards(),
+            dc,
+            lines,
+        )
     }
 }
 
-/// Keeps the order, after a coordinator wrote a record or none.
-fn note_written(
-    coords: &[Coord],
-    committed: &mut Vec<(TxId, Body)>,
-    cluster: &Cluster,
-    place: usize,
-    written: Option<usize>,
+/// Adds the lines that show a datacentre's shards.
+fn show_all(
+    shards: &[ShardHost],
+    alloc: Global,
+    count: u8,
+    dc: DcId,
+    lines: &mut Lines,
 ) -> Result<(), NoMemory>
-    requires place { place < length coords.now }
-    requires written { ForSome written (λ w. (x : CoordNode) → slice_get coords.now place ≡ Some x → w < length x.log) }
-    ensures { OnOk result ((x : CoordNode) (logs : Option Record) → slice_get coords.now place ≡ Some x → LogGrew written x.log logs →
-        committed.new.items ≡ ordered cluster.now coords.now committed.old.items logs) }
+    requires { count ≤ 8 }
+    ensures { OnOk result (lines.new ≡ lines.old ++ flat_map (shown_at (shard_nodes shards.now) count dc) (up_to count)) }
 {
-    match written {
-        None => Ok(()),
-        Some(written) => note(cluster, coords, committed, coords[place].record(written)),
+    for shard in 1..count + 1 {
+        show_one(shards, alloc, count, dc, ShardId(shard), lines)?;
     }
-}
-
-/// The coordinator at a place handles a message, and the order is kept.
-fn coord_handles(
-    coords: &mut Vec<Coord>,
-    committed: &mut Vec<(TxId, Body)>,
-    cluster: &Cluster,
-    dc: DcId,
-    msg: &Msg,
-    out: &mut Outbox,
-) -> Result<(), ActFault>
-    requires dcs { length coords.old.items ≡ cluster.now.dcs }
-    requires inside { coord_place dc < length coords.old.items }
-    ensures length { length coords.new.items ≡ length coords.old.items }
-    ensures done { OnOk result ((x : CoordNode) → slice_get coords.old.items (coord_place dc) ≡ Some x →
-        let act = coord_row cluster.now dc x.durable x.volatile msg.now in
-        (coords.new.items ≡ slice_set coords.old.items (coord_place dc) (coord_after x act))
-        × (committed.new.items ≡ ordered cluster.now coords.new.items committed.old.items act.logs)
-        × (out.new ≡ out.old ++ act.sends) × (act.spent ≡ false)) }
-    ensures spent { IfErr result (λ e. (x : CoordNode) → slice_get coords.old.items (coord_place dc) ≡ Some x →
-        Spends e (coord_row cluster.now dc x.durable x.volatile msg.now)) }
-{
-    let place = dc.0 as usize - 1;
-    let written = handle_at(&mut coords[place], cluster, dc, msg, out)?;
-    note_written(coords.as_slice(), committed, cluster, place, written)?;
     Ok(())
 }
 
-/// The shard server at a place handles a message.
-fn shard_handles(
-    shards: &mut Vec<Shard>,
-    place: usize,
+/// A shard server, by its datacentre and number.
+fn shard_host(shards: &[ShardHost], count: u8, dc: DcId, shard: ShardId) -> Option<&ShardHost>
+    ensures { option_copied result ≡ host_at shards.now count dc shard }
+{
+    if shard.0 > count {
+        return None;
+    }
+    shards.get((dc.0 as usize - 1) * count as usize + (shard.0 as usize - 1))
+}
+
+/// Adds the lines that show a shard server.
+fn show_one(
+    shards: &[ShardHost],
+    alloc: Global,
+    count: u8,
     dc: DcId,
     shard: ShardId,
-    msg: &Msg,
-    out: &mut Outbox,
-) -> Result<(), ActFault>
-    requires { place < length shards.old.items }
-    ensures done { OnOk result ((x : ShardNode) → slice_get shards.old.items place ≡ Some x →
-        let act = shard_row dc shard x.durable x.volatile msg.now in
-        (shards.new.items ≡ slice_set shards.old.items place (shard_after x act)) × (out.new ≡ out.old ++ act.sends)) }
-    ensures spent { IfErr result (λ e. e ≡ OutOfMemory) }
-{
-    shards[place].handle(dc, shard, msg, out)?;
-    Ok(())
-}
-
-/// The client of a transaction handles a message.
-fn client_handles(
-    clients: &mut BTreeMap<TxId, Client>,
-    cluster: &Cluster,
-    tx: TxId,
-    msg: &Msg,
-    out: &mut Outbox,
     lines: &mut Lines,
-) -> Result<(), ActFault>
-    ensures outside { OnOk result (found nat_cmp clients.old.entries tx ≡ None → (clients.new.entries ≡ clients.old.entries) × (out.new ≡ out.old) × (lines.new ≡ lines.old)) }
-    ensures done { OnOk result ((x : ClientState) → found nat_cmp clients.old.entries tx ≡ Some x →
-        let act = client_row cluster.now tx x msg.now in
-        (clients.new.entries ≡ replaced clients.old.entries tx act.after) × (out.new ≡ out.old ++ act.sends) × (lines.new ≡ lines.old ++ act.lines) × (act.worn ≡ false)) }
-    ensures worn { IfErr result (λ e. (x : ClientState) → found nat_cmp clients.old.entries tx ≡ Some x → Wears e (client_row cluster.now tx x msg.now)) }
-    ensures outside_refused { IfErr result (λ e. found nat_cmp clients.old.entries tx ≡ None → e ≡ OutOfMemory) }
+) -> Result<(), NoMemory>
+    ensures { OnOk result (lines.new ≡ lines.old ++ shown_at (shard_nodes shards.now) count dc shard) }
 {
-    match clients.get_mut(&tx) {
+    match shard_host(shards, count, dc, shard) {
         None => Ok(()),
-        Some(client) => {
-            client.handle(cluster, tx, msg, out, lines)?;
-            Ok(())
-        }
+        Some(host) => host.show(alloc, dc, shard, lines),
     }
 }
 
-/// The client of a transaction reads a key.
-fn client_reads(
-    clients: &mut BTreeMap<TxId, Client>,
-    cluster: &Cluster,
-    tx: TxId,
-    key: &Key,
-    out: &mut Outbox,
-    lines: &mut Lines,
-) -> Result<(), ActFault>
-    requires { (x : ClientState) → found nat_cmp clients.old.entries tx ≡ Some x → is_full x key.now ≡ false }
-    ensures outside { OnOk result (found nat_cmp clients.old.entries tx ≡ None → (clients.new.entries ≡ clients.old.entries) × (out.new ≡ out.old) × (lines.new ≡ lines.old)) }
-    ensures done { OnOk result ((x : ClientState) → found nat_cmp clients.old.entries tx ≡ Some x →
-        let act = do_read cluster.now tx x key.now in
-        (clients.new.entries ≡ replaced clients.old.entries tx act.after) × (out.new ≡ out.old ++ act.sends) × (lines.new ≡ lines.old ++ act.lines) × (act.worn ≡ false)) }
-    ensures worn { IfErr result (λ e. (x : ClientState) → found nat_cmp clients.old.entries tx ≡ Some x → Wears e (do_read cluster.now tx x key.now)) }
-    ensures outside_refused { IfErr result (λ e. found nat_cmp clients.old.entries tx ≡ None → e ≡ OutOfMemory) }
+/// Whether the coordinator of a datacentre is up.
+#[tactic(auto, using(crate::proofs::Sites::node_at))]
+fn coord_is_up(coords: &[CoordHost], dc: DcId) -> bool
+    ensures { result ≡ maybe (slice_get (coord_nodes coords.now) (coord_place dc)) false (λ x. x.up) }
 {
-    match clients.get_mut(&tx) {
-        None => Ok(()),
-        Some(client) => {
-            client.read(cluster, tx, key, out, lines)?;
-            Ok(())
-        }
+    match coords.get(dc.0 as usize - 1) {
+        None => false,
+        Some(host) => host.is_up(),
     }
 }
 
-/// The client of a transaction buffers a write.
-fn client_writes(
-    clients: &mut BTreeMap<TxId, Client>,
-    tx: TxId,
-    key: &Key,
-    value: &Val,
-) -> Result<(), ActFault>
-    requires { (x : ClientState) → found nat_cmp clients.old.entries tx ≡ Some x → is_full x key.now ≡ false }
-    ensures outside { OnOk result (found nat_cmp clients.old.entries tx ≡ None → (clients.new.entries ≡ clients.old.entries)) }
-    ensures done { OnOk result ((x : ClientState) → found nat_cmp clients.old.entries tx ≡ Some x →
-        let act = do_write x key.now value.now in
-        (clients.new.entries ≡ replaced clients.old.entries tx act.after) × (act.worn ≡ false)) }
-    ensures worn { IfErr result (λ e. (x : ClientState) → found nat_cmp clients.old.entries tx ≡ Some x → Wears e (do_write x key.now value.now)) }
-    ensures outside_refused { IfErr result (λ e. found nat_cmp clients.old.entries tx ≡ None → e ≡ OutOfMemory) }
+/// Whether a shard server is up.
+#[tactic(auto, using(crate::proofs::Sites::shard_node_at))]
+fn shard_is_up(shards: &[ShardHost], count: u8, dc: DcId, shard: ShardId) -> bool
+    ensures { result ≡ (if nat_le 1 shard && nat_le shard count then maybe (slice_get (shard_nodes shards.now) ((dc - 1) * count + (shard - 1))) false (λ x. x.up) else false) }
 {
-    match clients.get_mut(&tx) {
-        None => Ok(()),
-        Some(client) => {
-            client.write(key, value)?;
-            Ok(())
-        }
+    if shard.0 > count {
+        return false;
     }
-}
-
-/// The client of a transaction commits.
-fn client_commits(
-    clients: &mut BTreeMap<TxId, Client>,
-    cluster: &Cluster,
-    tx: TxId,
-    out: &mut Outbox,
-) -> Result<(), ActFault>
-    ensures outside { OnOk result (found nat_cmp clients.old.entries tx ≡ None → (clients.new.entries ≡ clients.old.entries) × (out.new ≡ out.old)) }
-    ensures done { OnOk result ((x : ClientState) → found nat_cmp clients.old.entries tx ≡ Some x →
-        let act = do_commit cluster.now tx x in
-        (clients.new.entries ≡ replaced clients.old.entries tx act.after) × (out.new ≡ out.old ++ act.sends) × (act.worn ≡ false)) }
-    ensures worn { IfErr result (λ e. (x : ClientState) → found nat_cmp clients.old.entries tx ≡ Some x → Wears e (do_commit cluster.now tx x)) }
-    ensures outside_refused { IfErr result (λ e. found nat_cmp clients.old.entries tx ≡ None → e ≡ OutOfMemory) }
-{
-    match clients.get_mut(&tx) {
-        None => Ok(()),
-        Some(client) => {
-            client.commit(cluster, tx, out)?;
-            Ok(())
-        }
+    match shards.get((dc.0 as usize - 1) * count as usize + (shard.0 as usize - 1)) {
+        None => false,
+        Some(host) => host.is_up(),
     }
-}
-
-/// New coordinators.
-fn new_coords(alloc: Global, dcs: u8) -> Result<Vec<Coord>, NoMemory>
-    ensures { IfOk result (λ coords. coords.items ≡ replicate dcs new_coord) }
-{
-    let mut coords = Vec::new(alloc);
-    for _ in 0..dcs {
-        coords.push(Coord::new(alloc))?;
-    }
-    Ok(coords)
-}
-
-/// New shard servers.
-fn new_shards(alloc: Global, count: usize) -> Result<Vec<Shard>, NoMemory>
-    ensures { IfOk result (λ shards. shards.items ≡ replicate count new_shard) }
-{
-    let mut shards = Vec::new(alloc);
-    for _ in 0..count {
-        shards.push(Shard::new(alloc))?;
-    }
-    Ok(shards)
 }

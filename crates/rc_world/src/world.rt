@@ -1,26 +1,24 @@
-// A world, and one event on all of it.
-ghost use Rattle.std.specs.Prelude.{◌≡◌, ◌++◌, ℕ, [], List, Option, Some, None, Ok, Err, OnOk, IfOk, IfErr, MatchOption, length, map};
+// One event on parties and network.
+ghost use Rattle.std.specs.Prelude.{◌≡◌, ◌+◌, ◌<◌, ◌++◌, [], true, false, None, Some, Ok, OnOk, IfOk, IfErr, length};
 ghost use Rattle.std.specs.Option.{option_copied};
-ghost use Rattle.std.specs.Ordering.{nat_cmp};
-ghost use Rattle.rc_ids.specs.Tables.{found};
-ghost use Rattle.rc_protocol.specs.Client.{Client as ClientState};
-ghost use Rattle.rc_protocol.specs.World.{new_world, message as message_lem, misnamed as misnamed_lem, named_wrongly, is_full, joined, deed, step, printed, wrong, limit as limit_lem, order as order_lem};
-ghost use Rattle.rc_protocol.specs.Text.{happens as happens_lem, oldest as oldest_lem};
-ghost use Rattle.std.specs.Prelude.{◌+◌, ◌≤◌};
-ghost use Rattle.rc_protocol.specs.World.{Parties as PartiesState, actor as actor_lem, envelopes, numbers_after, still_pending};
-ghost use Rattle.rc_world.specs.Acted.{Acted, Refuses, Performed, Forbids, Halts, early_limit as early_limit_lem};
+ghost use Rattle.rc_protocol.specs.World.{envelopes, bytes_of as bytes_of_lem, deed};
+ghost use Rattle.std.specs.Prelude.{nat_lt};
+ghost use Rattle.rc_report.specs.Lines.{line_text};
+ghost use Rattle.rc_protocol.specs.Refusals.{wrong, wants_up};
+ghost use Rattle.rc_protocol.specs.Session.{text_bytes, most_text_bytes, happens};
+ghost use Rattle.rc_world.specs.Networks.{passed, posted, too_much};
+ghost use Rattle.rc_world.specs.Sessions.{session_of, actor_if_any, acts as acts_lem, EventActed, ActRefused, Stepped, late_limit, Halts, Happened, Stay, event_lines, fault_of_limit, SendRefused, Overprints, early_limit as early_limit_lem};
 
-use crate::WorldFault;
-use crate::fault::ActFault;
-use crate::network::{post, same_party, take_out};
+use crate::SessionFault;
+use crate::disk::counted;
+use crate::fault::{ActFault, LimitFault};
+use crate::network::{Network, addressed, bytes_of, message, same_party};
 use crate::parties::Parties;
-use rc_ids::{Cluster, Key, NoMemory, Party, TxId};
+use rc_ids::{NoMemory, NodeId, Party, Text};
 use rc_msg::{Envelope, Outbox};
 use rc_protocol::Event;
-use rc_report::{Lines, Which, Wrong};
+use rc_report::{Line, Lines, Which, Wrong, render};
 use std::alloc::Global;
-use std::collections::VecDeque;
-use std::marker::Model;
 
 /// The most transactions that are begun in a run.
 const MOST_TRANSACTIONS: usize = 1024;
@@ -28,89 +26,116 @@ const MOST_TRANSACTIONS: usize = 1024;
 /// The most events of a run.
 const MOST_EVENTS: u32 = 2_000_000;
 
-/// The most messages that are sent in a run.
-const MOST_MESSAGES: usize = 4_000_000;
+/// The most bytes of text of a run.
+const MOST_TEXT_BYTES: u64 = 1 << 30;
 
-/// The message with a number.
-fn message(sent: &[Envelope], number: u32) -> Option<&Envelope>
-    ensures { option_copied result ≡ message_lem sent.now number }
+/// The same node.
+fn same_node(node: &NodeId) -> NodeId
+    ensures { result ≡ node.now }
 {
-    if number == 0 {
-        return None;
+    match node {
+        NodeId::Coord(dc) => NodeId::Coord(*dc),
+        NodeId::Shard(dc, shard) => NodeId::Shard(*dc, *shard),
     }
-    sent.get(number as usize - 1)
-}
-
-/// What is wrong with a name in a command of a client that is to be open.
-fn client_misnamed(parties: &Parties, tx: TxId, key: &Key) -> Option<Wrong>
-    ensures { result ≡ named_wrongly parties.now tx (λ x. is_full x key.now) }
-{
-    let Some(client) = parties.client(tx) else {
-        return Some(Wrong::NotBegun(tx));
-    };
-    if !client.is_open() {
-        return Some(Wrong::NotOpen(tx));
-    }
-    if client.is_full(key) {
-        return Some(Wrong::TooManyKeys(tx));
-    }
-    None
 }
 
 /// What the event names wrongly.
-fn misnamed(parties: &Parties, sent: &[Envelope], event: &Event) -> Option<Wrong>
-    ensures { result ≡ misnamed_lem parties.now sent.now event.now }
+fn misnamed(parties: &Parties, network: &Network, event: &Event) -> Option<Wrong>
+    ensures { result ≡ wrong (session_of parties.now network.now 0 0).world event.now }
 {
     match event {
-        Event::Begin(tx) => match parties.client(*tx) {
-            None => None,
-            Some(_) => Some(Wrong::BegunTwice(*tx)),
-        },
-        Event::Read(tx, key) => client_misnamed(parties, *tx, key),
-        Event::Write(tx, key, _) => client_misnamed(parties, *tx, key),
-        Event::Commit(tx) => match parties.client(*tx) {
-            None => Some(Wrong::NotBegun(*tx)),
-            Some(client) if client.is_open() => None,
-            Some(_) => Some(Wrong::NotOpen(*tx)),
-        },
-        Event::Deliver(number) => match message(sent, *number) {
+        Event::Begin(tx) => {
+            if parties.is_begun(*tx) {
+                Some(Wrong::BegunTwice(*tx))
+            } else {
+                None
+            }
+        }
+        Event::Read(tx, key) => parties.misnamed(*tx, true, Some(key)),
+        Event::Write(tx, key, _) => parties.misnamed(*tx, true, Some(key)),
+        Event::Commit(tx) => parties.misnamed(*tx, true, None),
+        Event::Cancel(tx, _) => parties.misnamed(*tx, true, None),
+        Event::Retry(tx) => parties.misnamed(*tx, false, None),
+        Event::Vanish(tx) => parties.misnamed(*tx, false, None),
+        Event::Take(dc, tx) => {
+            if !parties.is_up(&NodeId::Coord(*dc)) {
+                return Some(Wrong::Down(NodeId::Coord(*dc)));
+            }
+            if parties.is_begun(*tx) {
+                None
+            } else {
+                Some(Wrong::NotBegun(*tx))
+            }
+        }
+        Event::Catch(node) => down(parties, node),
+        Event::Deliver(number) => match message(network.sent(), *number) {
             None => Some(Wrong::NotSent(*number)),
             Some(_) => None,
         },
+        Event::Lose(number) => match message(network.sent(), *number) {
+            None => Some(Wrong::NotSent(*number)),
+            Some(_) if network.is_pending(*number) => None,
+            Some(_) => Some(Wrong::NotPending(*number)),
+        },
+        Event::Crash(node) => down(parties, node),
+        Event::CrashAt { node, .. } => down(parties, node),
+        Event::Restart(node) => {
+            if parties.is_up(node) {
+                Some(Wrong::Up(same_node(node)))
+            } else {
+                None
+            }
+        }
     }
 }
 
-/// Who acts in the event.
-fn actor(sent: &[Envelope], event: &Event) -> Party
-    requires { (parties : PartiesState) × (misnamed_lem parties sent.now event.now ≡ None) }
-    ensures { result ≡ actor_lem sent.now event.now }
+/// The node's fault, if it is down.
+fn down(parties: &Parties, node: &NodeId) -> Option<Wrong>
+    ensures { result ≡ wants_up parties.now.parties node.now }
+{
+    if parties.is_up(node) {
+        None
+    } else {
+        Some(Wrong::Down(same_node(node)))
+    }
+}
+
+/// Who acts in the event, if anybody does.
+fn actor(sent: &[Envelope], event: &Event) -> Option<Party>
+    ensures { result ≡ actor_if_any sent.now event.now }
 {
     match event {
-        Event::Begin(tx) => Party::Client(*tx),
-        Event::Read(tx, _) => Party::Client(*tx),
-        Event::Write(tx, _, _) => Party::Client(*tx),
-        Event::Commit(tx) => Party::Client(*tx),
+        Event::Begin(tx) => Some(Party::Client(*tx)),
+        Event::Read(tx, _) => Some(Party::Client(*tx)),
+        Event::Write(tx, _, _) => Some(Party::Client(*tx)),
+        Event::Commit(tx) => Some(Party::Client(*tx)),
+        Event::Cancel(tx, _) => Some(Party::Client(*tx)),
+        Event::Retry(tx) => Some(Party::Client(*tx)),
+        Event::Vanish(tx) => Some(Party::Client(*tx)),
+        Event::Take(dc, _) => Some(Party::Node(NodeId::Coord(*dc))),
+        Event::Catch(node) => Some(Party::Node(same_node(node))),
         Event::Deliver(number) => match message(sent, *number) {
-            None => unreachable!(),
-            Some(envelope) => same_party(&envelope.to),
+            None => None,
+            Some(envelope) => Some(same_party(&envelope.to)),
         },
+        Event::Lose(_) => None,
+        Event::Crash(node) => Some(Party::Node(same_node(node))),
+        Event::CrashAt { node, .. } => Some(Party::Node(same_node(node))),
+        Event::Restart(node) => Some(Party::Node(same_node(node))),
     }
 }
 
-/// The receiver of a message handles it.
-fn deliver(
-    parties: &mut Parties,
-    sent: &[Envelope],
-    number: u32,
-    out: &mut Outbox,
-    lines: &mut Lines,
-) -> Result<(), ActFault>
-    ensures done { OnOk result (Acted (deed parties.old sent.now (Event.Deliver number)) parties.old parties.new out.old out.new lines.old lines.new) }
-    ensures refused { IfErr result (λ e. Refuses e (deed parties.old sent.now (Event.Deliver number))) }
+/// Whether in the event a party does its part that is up.
+fn acts(event: &Event) -> bool
+    ensures { result ≡ acts_lem event.now }
 {
-    match message(sent, number) {
-        None => Ok(()),
-        Some(envelope) => parties.receive(&envelope.to, &envelope.msg, out, lines),
+    match event {
+        Event::Begin(_) => false,
+        Event::Lose(_) => false,
+        Event::Crash(_) => false,
+        Event::CrashAt { .. } => false,
+        Event::Restart(_) => false,
+        _ => true,
     }
 }
 
@@ -118,67 +143,27 @@ fn deliver(
 fn act(
     alloc: Global,
     parties: &mut Parties,
-    sent: &[Envelope],
+    network: &Network,
     event: &Event,
-    out: &mut Outbox,
-    lines: &mut Lines,
-) -> Result<(), ActFault>
-    requires { misnamed_lem parties.old sent.now event.now ≡ None }
-    ensures done { OnOk result (Acted (deed parties.old sent.now event.now) (joined parties.old event.now) parties.new out.old out.new lines.old lines.new) }
-    ensures refused { IfErr result (λ e. Refuses e (deed parties.old sent.now event.now)) }
+    from: &Party,
+    own: &mut Lines,
+) -> Result<Outbox, ActFault>
+    requires named { wrong (session_of parties.old network.now 0 0).world event.now ≡ None }
+    requires from { actor_if_any network.now.sent event.now ≡ Some from.now }
+    requires own { own.old ≡ [] }
+    ensures done { IfOk result (λ out. EventActed parties.old parties.new network.now event.now out own.new) }
+    ensures refused { IfErr result (λ e. ActRefused e (deed parties.old.parties network.now.sent event.now)) }
 {
+    if acts(event) {
+        return parties.act(alloc, from, network.sent(), event, own);
+    }
     match event {
         Event::Begin(tx) => {
             parties.begin(alloc, *tx)?;
-            Ok(())
+            Ok(Outbox::new(alloc))
         }
-        Event::Read(tx, key) => parties.read(*tx, key, out, lines),
-        Event::Write(tx, key, value) => parties.write(*tx, key, value),
-        Event::Commit(tx) => parties.commit(*tx, out),
-        Event::Deliver(number) => deliver(parties, sent, *number, out, lines),
+        _ => Err(ActFault::NoMemory),
     }
-}
-
-/// What is delivered is no longer pending, and what was sent is.
-fn finish(
-    sent: &mut Vec<Envelope>,
-    pending: &mut VecDeque<u32>,
-    event: &Event,
-    from: &Party,
-    out: Outbox,
-) -> Result<(), NoMemory>
-    requires { length sent.old.items + length out ≤ 4000000 }
-    ensures sent { OnOk result (sent.new.items ≡ sent.old.items ++ envelopes from.now out) }
-    ensures pending { OnOk result (pending.new.items ≡ still_pending pending.old.items event.now ++ numbers_after (length sent.old.items) out) }
-{
-    if let Event::Deliver(number) = event {
-        take_out(pending, *number);
-    }
-    post(sent, pending, from, out)
-}
-
-/// An event that names nothing wrongly happens to the parties and the network.
-fn perform(
-    alloc: Global,
-    parties: &mut Parties,
-    sent: &mut Vec<Envelope>,
-    pending: &mut VecDeque<u32>,
-    event: &Event,
-    lines: &mut Lines,
-) -> Result<(), ActFault>
-    requires { misnamed_lem parties.old sent.old.items event.now ≡ None }
-    ensures done { OnOk result (Performed (deed parties.old sent.old.items event.now) (actor_lem sent.old.items event.now)
-        (joined parties.old event.now) parties.new sent.old.items sent.new.items (still_pending pending.old.items event.now) pending.new.items lines.old lines.new) }
-    ensures refused { IfErr result (λ e. Forbids e sent.old.items (deed parties.old sent.old.items event.now)) }
-{
-    let from = actor(sent.as_slice(), event);
-    let mut out = Outbox::new(alloc);
-    act(alloc, parties, sent.as_slice(), event, &mut out, lines)?;
-    if sent.len() + out.len() > MOST_MESSAGES {
-        return Err(ActFault::NetworkFull);
-    }
-    finish(sent, pending, event, &from, out)?;
-    Ok(())
 }
 
 /// The limit that an event passes before anybody acts.
@@ -194,75 +179,159 @@ fn early_limit(event: &Event, begun: usize, events: u32) -> Option<Which>
     None
 }
 
-/// Nodes, clients, and the network between them. After a refusal that is no `Naming` it is spent.
-#[derive(Drop)]
-pub struct World {
-    parties: Parties,
-    sent: Vec<Envelope>,
-    pending: VecDeque<u32>,
+/// What was delivered or lost is no longer pending, and what is sent in the event is, if it passes no limit.
+fn send(
+    alloc: Global,
+    network: &mut Network,
+    event: &Event,
+    from: &Party,
+    out: Outbox,
+) -> Result<(), LimitFault>
+    ensures sent { OnOk result (let letters = envelopes from.now out in
+        (too_much network.old (length letters) (bytes_of_lem letters) ≡ None) × (network.new ≡ posted (passed network.old event.now) letters (bytes_of_lem letters))) }
+    ensures refused { IfErr result (λ e. let letters = envelopes from.now out in SendRefused e (too_much network.old (length letters) (bytes_of_lem letters))) }
+{
+    let letters = addressed(alloc, from, out)?;
+    let bytes = bytes_of(alloc, letters.as_slice())?;
+    if let Some(which) = network.limit(letters.len(), bytes)? {
+        return Err(LimitFault::Limit(which));
+    }
+    network.pass(event)?;
+    network.post(letters, bytes)?;
+    Ok(())
+}
+
+/// What was lost is no longer pending; nothing is sent, and no limit was passed before.
+fn send_nothing(network: &mut Network, event: &Event) -> Result<(), LimitFault>
+    ensures passed { OnOk result ((too_much network.old 0 0 ≡ None) × (network.new ≡ passed network.old event.now)) }
+    ensures refused { IfErr result (λ e. SendRefused e (too_much network.old 0 0)) }
+{
+    if let Some(which) = network.limit(0, 0)? {
+        return Err(LimitFault::Limit(which));
+    }
+    network.pass(event)?;
+    Ok(())
+}
+
+/// One event on parties and network: who acts in it does its deed, and what that sends is sent.
+pub(crate) fn step(
+    alloc: Global,
+    parties: &mut Parties,
+    network: &mut Network,
+    event: &Event,
+    own: &mut Lines,
+) -> Result<(), LimitFault>
+    requires named { wrong (session_of parties.old network.old 0 0).world event.now ≡ None }
+    requires own { own.old ≡ [] }
+    ensures done { OnOk result (Stepped parties.old parties.new network.old network.new event.now own.new) }
+    ensures refused { IfErr result (λ e. SendRefused e (late_limit parties.old network.old event.now)) }
+{
+    let Some(from) = actor(network.sent(), event) else {
+        return send_nothing(network, event);
+    };
+    let out = act(alloc, parties, network, event, &from, own)?;
+    send(alloc, network, event, &from, out)
+}
+
+/// One event that names nothing wrongly: what it prints, and how many bytes of text there are after it.
+pub(crate) fn happen(
+    alloc: Global,
+    parties: &mut Parties,
+    network: &mut Network,
     events: u32,
+    text: u64,
+    event: &Event,
+    own: &mut Lines,
+) -> Result<u64, LimitFault>
+    requires named { wrong (session_of parties.old network.old 0 0).world event.now ≡ None }
+    requires own { own.old ≡ [] }
+    ensures room { OnOk result (events < 2000000) }
+    ensures went { IfOk result (λ sum. happens (session_of parties.old network.old events text) event.now ≡ Ok (session_of parties.new network.new (events + 1) sum, own.new)) }
+    ensures own { OnOk result (own.new ≡ event_lines (session_of parties.old network.old events text) event.now) }
+    ensures refused { IfErr result (λ e. Halts (fault_of_limit e) (happens (session_of parties.old network.old events text) event.now)) }
+{
+    if let Some(which) = early_limit(event, parties.count(), events) {
+        return Err(LimitFault::Limit(which));
+    }
+    step(alloc, parties, network, event, own)?;
+    print(alloc, text, own)
 }
 
-impl Model for World {
-    ghost use Rattle.rc_protocol.specs.World.{World as WorldState};
-
-    ghost Value = { WorldState };
-
-    ghost view = { λ w. record { parties = w.parties; sent = w.sent.items; pending = w.pending.items; events = w.events } };
+/// One event that names nothing wrongly: what it prints is added to the lines, and the event and the bytes of its text
+/// are counted.
+fn happen_named(
+    alloc: Global,
+    parties: &mut Parties,
+    network: &mut Network,
+    events: &mut u32,
+    text: &mut u64,
+    event: &Event,
+    lines: &mut Lines,
+) -> Result<(), LimitFault>
+    requires { wrong (session_of parties.old network.old 0 0).world event.now ≡ None }
+    ensures done { OnOk result (let z = session_of parties.old network.old events.old text.old in
+        Happened (happens z event.now) (session_of parties.new network.new events.new text.new) (event_lines z event.now) lines.old lines.new) }
+    ensures refused { IfErr result (λ e. Halts (fault_of_limit e) (happens (session_of parties.old network.old events.old text.old) event.now)) }
+    ensures lines { IfErr result (λ e. Stay (fault_of_limit e) lines.old lines.new) }
+{
+    let mut own = Lines::new(alloc);
+    let sum = happen(alloc, parties, network, *events, *text, event, &mut own)?;
+    *text = sum;
+    *events += 1;
+    lines.append(own)?;
+    Ok(())
 }
 
-impl World {
-    /// A new world, in which nothing was sent and no transaction begun.
-    pub fn new(alloc: Global, cluster: Cluster) -> Result<World, NoMemory>
-        ensures { IfOk result (λ w. w ≡ new_world cluster) }
-    {
-        Ok(World {
-            parties: Parties::new(alloc, cluster)?,
-            sent: Vec::new(alloc),
-            pending: VecDeque::new(alloc),
-            events: 0,
-        })
+/// One event: what it prints is added to the lines, and the event and the bytes of its text are counted.
+pub(crate) fn happen_in(
+    alloc: Global,
+    parties: &mut Parties,
+    network: &mut Network,
+    events: &mut u32,
+    text: &mut u64,
+    event: &Event,
+    lines: &mut Lines,
+) -> Result<(), SessionFault>
+    ensures done { OnOk result (let z = session_of parties.old network.old events.old text.old in
+        Happened (happens z event.now) (session_of parties.new network.new events.new text.new) (event_lines z event.now) lines.old lines.new) }
+    ensures refused { IfErr result (λ e. Halts e (happens (session_of parties.old network.old events.old text.old) event.now)) }
+    ensures lines { IfErr result (λ e. Stay e lines.old lines.new) }
+{
+    if let Some(name) = misnamed(parties, network, event) {
+        return Err(SessionFault::Naming(name));
     }
+    happen_named(alloc, parties, network, events, text, event, lines)?;
+    Ok(())
+}
 
-    /// One event; what it prints is added to the lines.
-    pub fn happen(
-        &mut self,
-        alloc: Global,
-        event: &Event,
-        lines: &mut Lines,
-    ) -> Result<(), WorldFault>
-        ensures done { OnOk result ((happens_lem self.old event.now ≡ Ok (self.new, printed self.old event.now)) × (lines.new ≡ lines.old ++ printed self.old event.now)) }
-        ensures refused { IfErr result (λ e. Halts e (happens_lem self.old event.now)) }
-    {
-        if let Some(name) = misnamed(&self.parties, self.sent.as_slice(), event) {
-            return Err(WorldFault::Naming(name));
-        }
-        if let Some(which) = early_limit(event, self.parties.count(), self.events) {
-            return Err(WorldFault::Limit(which));
-        }
-        perform(
-            alloc,
-            &mut self.parties,
-            &mut self.sent,
-            &mut self.pending,
-            event,
-            lines,
-        )?;
-        self.events += 1;
-        Ok(())
-    }
+/// How many bytes the text of a line has.
+fn line_len(alloc: Global, line: &Line) -> Result<u64, NoMemory>
+    ensures { IfOk result (λ len. len ≡ length (line_text line.now)) }
+{
+    let mut text = Text::new(alloc);
+    render(line, &mut text)?;
+    Ok(text.len() as u64)
+}
 
-    /// The oldest pending message.
-    pub fn oldest(&self) -> Option<u32>
-        ensures { result ≡ oldest_lem self.now.pending }
-    {
-        self.pending.front().copied()
+/// How many bytes the text of the lines has.
+fn text_len(alloc: Global, lines: &[Line]) -> Result<u64, NoMemory>
+    ensures { IfOk result (λ len. len ≡ text_bytes lines.now) }
+{
+    let mut len = 0;
+    for line in lines {
+        len = counted(len, line_len(alloc, line)?)?;
     }
+    Ok(len)
+}
 
-    /// The committed transactions, in the order in which their commit became chosen.
-    pub fn order(&self, alloc: Global) -> Result<Vec<TxId>, NoMemory>
-        ensures { IfOk result (λ txs. txs.items ≡ order_lem self.now) }
-    {
-        self.parties.order(alloc)
+/// Counts the text of lines, if it passes no limit.
+pub(crate) fn print(alloc: Global, text: u64, lines: &Lines) -> Result<u64, LimitFault>
+    ensures fits { IfOk result (λ sum. (sum ≡ text + text_bytes lines.now) × (nat_lt most_text_bytes (text + text_bytes lines.now) ≡ false)) }
+    ensures refused { IfErr result (λ e. Overprints e (text + text_bytes lines.now)) }
+{
+    let sum = counted(text, text_len(alloc, lines.as_slice())?)?;
+    if sum > MOST_TEXT_BYTES {
+        return Err(LimitFault::Limit(Which::TextBytes));
     }
+    Ok(sum)
 }

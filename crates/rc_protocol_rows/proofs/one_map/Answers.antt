@@ -1,4 +1,4 @@
-use Rattle.rc_protocol_rows.proofs.Computed.{map-write_then_read, map-no_key, map-own_write}
+use Rattle.rc_protocol_rows.proofs.OneMap.{map-write_then_read, map-no_key, map-own_write}
 use Rattle.rc_protocol_rows.proofs.one_map.Goals as goal
 
 pub returns : goal.returns

@@ -7,7 +7,7 @@ use Rattle.rc_shard.proofs.marks.Marks.add_free.Goals.{then-is_free+in_ok-add, e
 
 pub loop-mark-preserved : goal.loop-mark-preserved
 loop-mark-preserved c =
-    let p = is_free c.args.durable.now.parts in
+    let p = is_free c.args.parts.now in
     let x : Mark = c.mark-item.result in
     let xs : List Mark = c.deref-mark-items.result.now in
     let rest : List Mark = drop (c.loop-mark.mark-index + 1) xs in

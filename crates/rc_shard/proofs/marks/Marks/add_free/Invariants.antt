@@ -4,5 +4,5 @@ use Rattle.rc_shard.proofs.marks.Marks.add_free.Given as goal
 
 abbrev pub invariant-loop-mark : goal.invariant-loop-mark
 invariant-loop-mark l =
-    added_all l.self (filter (is_free l.durable.parts) (drop l.mark-index l.mark-items))
-    ≡ added_all l.fn.self (filter (is_free l.durable.parts) l.waiting)
+    added_all l.self (filter (is_free l.parts) (drop l.mark-index l.mark-items))
+    ≡ added_all l.fn.self (filter (is_free l.parts) l.waiting)

@@ -5,5 +5,5 @@ use Rattle.rc_shard.proofs.waiting.Waiting.drop_free.Goals as goal
 
 pub returns : goal.returns
 returns c =
-    filter_same _ (λ (m : Mark). not (is_free c.args.durable.now.parts m)) _ (λ x b f k. search rules) _ _ c.retain.ensures.filtered
-    ∙ ap (λ (xs : List Mark). filter (λ (m : Mark). not (is_free c.args.durable.now.parts m)) xs) c.self.view_is
+    filter_same _ (λ (m : Mark). not (is_free c.args.parts.now m)) _ (λ x b f k. search rules) _ _ c.retain.ensures.filtered
+    ∙ ap (λ (xs : List Mark). filter (λ (m : Mark). not (is_free c.args.parts.now m)) xs) c.self.view_is

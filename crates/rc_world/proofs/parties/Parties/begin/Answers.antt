@@ -1,6 +1,7 @@
 use Rattle.std.proofs.Common.{ap}
-use Rattle.rc_protocol.specs.World.{Parties, with_new_client}
+use Rattle.rc_protocol.specs.World.{with_new_client}
+use Rattle.rc_world.specs.Acted.{Housed}
 use Rattle.rc_world.proofs.parties.Parties.begin.Goals as goal
 
-pub returns : goal.returns
-returns c = rw (c.in_ok-insert.ensures.entries, c.new.ensures) (ap (λ (p : Parties). with_new_client p c.args.tx) c.self.view_is)
+pub returns-clause-parties : goal.returns-clause-parties
+returns-clause-parties c = rw (c.in_ok-insert.ensures.entries, c.new.ensures) (ap (λ (h : Housed). with_new_client h.parties c.args.tx) c.self.view_is)

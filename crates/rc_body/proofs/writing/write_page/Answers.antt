@@ -1,0 +1,10 @@
+use Rattle.std.proofs.Common.{length}
+use Rattle.rc_fields.specs.Spelling.{u8_bytes}
+use Rattle.rc_body.specs.Spelling.{outcome_bytes}
+use Rattle.rc_body.proofs.Written.{one_more_written}
+use Rattle.rc_body.proofs.writing.write_page.Goals as goal
+
+pub loop-index-preserved : goal.loop-index-preserved
+loop-index-preserved c =
+    one_more_written outcome_bytes c.args.v.now c.loop-index.index _ c.args.out.now (u8_bytes (length c.args.v.now)) c.loop-index.out c.write_outcome.new.out
+    c.entry-tx.ensures c.loop-index.invariant c.in_ok-write_outcome.ensures.ok

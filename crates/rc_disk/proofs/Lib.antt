@@ -1,0 +1,7 @@
+mod Inked
+mod Lists
+mod Pasts
+mod Leavings
+mod Slots
+mod MemFarms
+mod HostFarms

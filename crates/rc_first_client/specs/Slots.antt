@@ -1,0 +1,30 @@
+-- The keys that a transaction touched: at most 32, and each once.
+use Rattle.std.specs.Prelude.{◌≡◌, ℕ, ◌<◌, ◌≤◌, Bool, false, ◌||◌, List, [], ◌∷◌, length, map, take, slice_get, None}
+use Rattle.std.specs.List.{list_any}
+use Rattle.rc_ids.specs.Texts.{same_key}
+use Rattle.rc_first_protocol.specs.Client.{Slot, slot_of, is_under_way, is_unread}
+
+abbrev pub keys_of : List Slot → List (List ℕ)
+keys_of slots = map (λ (s : Slot). s.key) slots
+
+abbrev pub has_key : List (List ℕ) → List ℕ → Bool
+has_key keys k = list_any (λ l. same_key l k) keys
+
+-- no key comes twice
+abbrev pub Differ : List (List ℕ) → Type 0
+Differ [] = Unit {0}
+Differ (k ∷ ks) = (has_key ks k ≡ false) × Differ ks
+
+pub record IsSlots (slots : List Slot) : Type 0 where
+  pub few : length slots ≤ 32
+  pub apart : Differ (keys_of slots)
+
+-- where the first slot with the key stands
+pub record IsPlace (slots : List Slot) (k : List ℕ) (place : ℕ) : Type 0 where
+  pub within : place < length slots
+  pub first : slot_of (take place slots) k ≡ None
+  pub here : slot_of slots k ≡ slice_get slots place
+
+-- a read is under way, or is once the reads are begun
+abbrev pub waits_once_begun : List Slot → Bool
+waits_once_begun slots = list_any (λ (s : Slot). is_under_way s.read || is_unread s.read) slots

@@ -1,0 +1,5 @@
+pub mod TableFacts
+pub mod CountFacts
+pub mod SendFacts
+pub mod OutcomeFacts
+pub mod VoteFacts

@@ -1,0 +1,293 @@
+-- The rows of a client, which buffers its writes, reads from a quorum and proposes its own commit at ballot 0.
+use Rattle.std.specs.Prelude.{ℕ, Bool, true, false, cond, not, ◌||◌, ◌&&◌, List, [], ◌∷◌, ◌++◌, map, Option, Some, None, nat_lt, ◌==◌, if◌then◌else◌}
+use Rattle.std.specs.Ordering.{nat_cmp}
+use Rattle.std.specs.List.{list_any}
+use Rattle.rc_ids.specs.Tables.{Table, member, added, maybe}
+use Rattle.rc_ids.specs.Texts.{key_cmp, same_key}
+use Rattle.rc_ids.specs.Cluster.{Layout, is_quorum, home, shard_of}
+use Rattle.rc_body.specs.Entries.{wears_out}
+use Rattle.rc_body.specs.Decisions.{outcome_of}
+use Rattle.rc_body.specs.declared.entry.Entry.{Entry}
+use Rattle.rc_body.specs.declared.decision.Decision.{Decision}
+use Rattle.rc_body.specs.declared.decision.Decision.TheVariants.{Commit}
+use Rattle.rc_body.specs.declared.reason.Reason.{Reason}
+use Rattle.rc_msg.specs.declared.msg.Msg.{Msg}
+use Rattle.rc_msg.specs.declared.msg.Msg.TheVariants.{ReadAsk, ReadCancel, Granted, Propose, Voted, Refused, Decided, Abandon}
+use Rattle.rc_report.specs.declared.line.Line.{Line}
+use Rattle.rc_report.specs.declared.line.Line.TheVariants.{Read as ReadLine, Own, Refused as RefusedLine, Learned}
+use Rattle.rc_first_protocol.specs.Messages.{Sends, coordinator, shard_server, one, to_each, to_all}
+use Rattle.rc_first_protocol.specs.Coordinator.{Standing, counted, is_decided_by}
+
+pub data Phase : Type 0 where
+  Open Committing Proposed Done : Phase
+
+-- what a datacentre's shard gave
+pub record Grant : Type 0 where
+  pub dc : ℕ
+  pub version : ℕ
+  pub value : Option (List ℕ)
+
+-- the read of a key: none, one under way (whether a line is printed at its end, and the grants so far), or a complete one
+pub data KeyRead : Type 0 where
+  NotRead : KeyRead
+  UnderWay : Bool → List Grant → KeyRead
+  Complete : ℕ → Option (List ℕ) → KeyRead
+
+-- a key that the transaction touched, with its buffered write and its read
+pub record Slot : Type 0 where
+  pub key : List ℕ
+  pub write : Option (List ℕ)
+  pub read : KeyRead
+
+pub record Client : Type 0 where
+  pub phase : Phase
+  pub slots : List Slot  -- in order of first touch
+  pub refusals : List ℕ
+  pub votes : Table ℕ Standing
+  pub outcome : Option Decision
+
+-- what a row does; where a version that is written has no next one it does nothing, and says so
+pub record ClientAct : Type 0 where
+  pub after : Client
+  pub sends : Sends
+  pub lines : List Line
+  pub worn : Bool
+
+abbrev pub new_client : Client
+new_client = record { phase = Open; slots = []; refusals = []; votes = []; outcome = None }
+
+abbrev pub is_open : Phase → Bool
+is_open Open = true
+is_open _ = false
+
+abbrev pub is_committing : Phase → Bool
+is_committing Committing = true
+is_committing _ = false
+
+abbrev pub is_proposed : Phase → Bool
+is_proposed Proposed = true
+is_proposed _ = false
+
+abbrev pub is_done : Phase → Bool
+is_done Done = true
+is_done _ = false
+
+abbrev pub in_phase : Client → Phase → Client
+in_phase x phase = record { phase = phase; slots = x.slots; refusals = x.refusals; votes = x.votes; outcome = x.outcome }
+
+abbrev pub with_slots : Client → List Slot → Client
+with_slots x slots = record { phase = x.phase; slots = slots; refusals = x.refusals; votes = x.votes; outcome = x.outcome }
+
+-- SLOTS
+abbrev pub slot_of : List Slot → List ℕ → Option Slot
+slot_of [] k = None
+slot_of (s ∷ ss) k = cond (same_key s.key k) (Some s) (slot_of ss k)
+
+-- the slot in the place of the one with its key
+abbrev pub slot_set : List Slot → Slot → List Slot
+slot_set [] slot = []
+slot_set (s ∷ ss) slot = cond (same_key s.key slot.key) (slot ∷ ss) (s ∷ slot_set ss slot)
+
+abbrev pub with_read : Slot → KeyRead → Slot
+with_read s read = record { key = s.key; write = s.write; read = read }
+
+abbrev pub with_write : Slot → List ℕ → Slot
+with_write s value = record { key = s.key; write = Some value; read = s.read }
+
+abbrev pub is_under_way : KeyRead → Bool
+is_under_way (UnderWay prints grants) = true
+is_under_way _ = false
+
+abbrev pub is_unread : KeyRead → Bool
+is_unread NotRead = true
+is_unread _ = false
+
+abbrev pub grants_of : KeyRead → List Grant
+grants_of (UnderWay prints grants) = grants
+grants_of _ = []
+
+abbrev pub prints_of : KeyRead → Bool
+prints_of (UnderWay prints grants) = prints
+prints_of _ = false
+
+abbrev pub waits_for_read : List Slot → Bool
+waits_for_read slots = list_any (λ (s : Slot). is_under_way s.read) slots
+
+abbrev pub version_read : KeyRead → ℕ
+version_read (Complete version value) = version
+version_read _ = 0
+
+abbrev pub entry_of : Slot → Entry
+entry_of s = record { key = s.key; version = version_read s.read; write = s.write }
+
+abbrev pub body_of : List Slot → List Entry
+body_of slots = map entry_of slots
+
+-- ACTS
+abbrev pub client_stays : Client → ClientAct
+client_stays x = record { after = x; sends = []; lines = []; worn = false }
+
+abbrev pub client_says : Client → Sends → ClientAct
+client_says x ms = record { after = x; sends = ms; lines = []; worn = false }
+
+abbrev pub client_prints : Client → Line → ClientAct
+client_prints x line = record { after = x; sends = []; lines = line ∷ []; worn = false }
+
+abbrev pub wears : Client → ClientAct
+wears x = record { after = x; sends = []; lines = []; worn = true }
+
+abbrev pub asks : Layout → ℕ → List ℕ → Sends
+asks c t k = to_each c.dcs (λ d. one (shard_server d (shard_of c k)) (ReadAsk t k))
+
+-- PROPOSING
+abbrev pub is_worn : List Slot → Bool
+is_worn slots = list_any (λ (s : Slot). wears_out (entry_of s)) slots
+
+-- where a version is worn out, the client stays as it was before the event
+abbrev pub proposes : Layout → ℕ → Client → Client → ClientAct
+proposes c t before x =
+    if is_worn x.slots then wears before
+    else client_says (in_phase x Proposed) (to_all c (Propose t 0 (Commit (body_of x.slots))))
+
+-- COMMANDS
+abbrev pub asks_new : Layout → ℕ → Client → List ℕ → ClientAct
+asks_new c t x k = client_says (with_slots x (x.slots ++ record { key = k; write = None; read = UnderWay true [] } ∷ [])) (asks c t k)
+
+abbrev pub reads_again : ℕ → Client → List ℕ → KeyRead → ClientAct
+reads_again t x k (Complete version value) = client_prints x (ReadLine t k version value)
+reads_again t x k _ = client_stays x
+
+abbrev pub reads_slot : ℕ → Client → List ℕ → Slot → ClientAct
+reads_slot t x k s = maybe s.write (reads_again t x k s.read) (λ value. client_prints x (Own t k value))
+
+abbrev pub do_read : Layout → ℕ → Client → List ℕ → ClientAct
+do_read c t x k = maybe (slot_of x.slots k) (asks_new c t x k) (reads_slot t x k)
+
+abbrev pub do_write : Client → List ℕ → List ℕ → ClientAct
+do_write x k value =
+    client_stays (with_slots x
+    (maybe (slot_of x.slots k) (x.slots ++ record { key = k; write = Some value; read = NotRead } ∷ []) (λ s. slot_set x.slots (with_write s value))))
+
+-- the written keys that were not read, in key order
+abbrev pub unread_keys : List Slot → List (List ℕ)
+unread_keys [] = []
+unread_keys (s ∷ ss) = if is_unread s.read then added key_cmp (unread_keys ss) s.key else unread_keys ss
+
+abbrev pub read_begun : Slot → Slot
+read_begun s = if is_unread s.read then with_read s (UnderWay false []) else s
+
+abbrev pub reads_begun : List Slot → List Slot
+reads_begun slots = map read_begun slots
+
+abbrev pub asks_all : Layout → ℕ → List (List ℕ) → Sends
+asks_all c t [] = []
+asks_all c t (k ∷ ks) = asks c t k ++ asks_all c t ks
+
+abbrev pub do_commit : Layout → ℕ → Client → ClientAct
+do_commit c t x =
+    if waits_for_read (reads_begun x.slots)
+    then client_says (in_phase (with_slots x (reads_begun x.slots)) Committing) (asks_all c t (unread_keys x.slots))
+    else proposes c t x x
+
+-- A GRANT COMES
+abbrev pub granted_by : List Grant → List ℕ
+granted_by [] = []
+granted_by (g ∷ gs) = added nat_cmp (granted_by gs) g.dc
+
+-- the highest version, and the value of its first grant
+abbrev pub best_grant : List Grant → ℕ × Option (List ℕ)
+best_grant [] = (0, None)
+best_grant (g ∷ gs) = if nat_lt g.version (best_grant gs).0 then best_grant gs else (g.version, g.value)
+
+abbrev pub cancel_to : Layout → ℕ → List ℕ → List ℕ → ℕ → Sends
+cancel_to c t k granted d = if member nat_cmp granted d then [] else one (shard_server d (shard_of c k)) (ReadCancel t k)
+
+abbrev pub cancels : Layout → ℕ → List ℕ → List Grant → Sends
+cancels c t k grants = to_each c.dcs (cancel_to c t k (granted_by grants))
+
+abbrev pub completed : Slot → List Grant → Slot
+completed s grants = with_read s (Complete (best_grant grants).0 (best_grant grants).1)
+
+abbrev pub read_line : ℕ → Slot → List Grant → List Line
+read_line t s grants = if prints_of s.read then ReadLine t s.key (best_grant grants).0 (best_grant grants).1 ∷ [] else []
+
+-- a committing client that waits for no read proposes
+abbrev pub goes_on : Layout → ℕ → Client → Client → ClientAct
+goes_on c t before x = if is_committing x.phase && not (waits_for_read x.slots) then proposes c t before x else client_stays x
+
+abbrev pub completes_then : Sends → List Line → ClientAct → ClientAct
+completes_then ms lines act =
+    if act.worn then act
+    else record { after = act.after; sends = ms ++ act.sends; lines = lines; worn = false }
+
+abbrev pub completes : Layout → ℕ → Client → Slot → List Grant → ClientAct
+completes c t x s grants =
+    completes_then (cancels c t s.key grants) (read_line t s grants) (goes_on c t x (with_slots x (slot_set x.slots (completed s grants))))
+
+abbrev pub with_grant : Slot → Grant → List Grant
+with_grant s g = grants_of s.read ++ g ∷ []
+
+abbrev pub takes_grant : Layout → ℕ → Client → Slot → Grant → ClientAct
+takes_grant c t x s g =
+    if is_quorum c (granted_by (with_grant s g))
+    then completes c t x s (with_grant s g)
+    else client_stays (with_slots x (slot_set x.slots (with_read s (UnderWay (prints_of s.read) (with_grant s g)))))
+
+-- the read of the slot is under way, and d has not granted it
+abbrev pub wants_grant : Slot → ℕ → Bool
+wants_grant s d = is_under_way s.read && not (member nat_cmp (granted_by (grants_of s.read)) d)
+
+abbrev pub reads_on : Phase → Bool
+reads_on phase = is_open phase || is_committing phase
+
+abbrev pub on_granted : Layout → ℕ → Client → List ℕ → Grant → ClientAct
+on_granted c t x k g =
+    if reads_on x.phase
+    then maybe (slot_of x.slots k) (client_stays x) (λ s. if wants_grant s g.dc then takes_grant c t x s g else client_stays x)
+    else client_stays x
+
+-- VOTES, REFUSALS, OUTCOMES
+abbrev pub learns : ℕ → Client → Decision → ClientAct
+learns t x o = record {
+  after = record { phase = Done; slots = x.slots; refusals = x.refusals; votes = x.votes; outcome = Some o };
+  sends = [];
+  lines = Learned t (outcome_of o) ∷ [];
+  worn = false;
+}
+
+abbrev pub with_vote : Client → ℕ → ℕ → Decision → Client
+with_vote x b d o = record { phase = x.phase; slots = x.slots; refusals = x.refusals; votes = counted x.votes b d o; outcome = x.outcome }
+
+abbrev pub on_voted : Layout → ℕ → Client → ℕ → ℕ → Decision → ClientAct
+on_voted c t x b d o =
+    if is_done x.phase then client_stays x
+    else (if is_decided_by c x.votes b d o then learns t (with_vote x b d o) o else client_stays (with_vote x b d o))
+
+abbrev pub on_decided : ℕ → Client → Decision → ClientAct
+on_decided t x o = if is_done x.phase then client_stays x else learns t x o
+
+abbrev pub with_refusal : Client → ℕ → Client
+with_refusal x d = record { phase = x.phase; slots = x.slots; refusals = added nat_cmp x.refusals d; votes = x.votes; outcome = x.outcome }
+
+-- the refusing datacentres are a quorum now and were none before
+abbrev pub gives_up : Layout → ℕ → List ℕ → ℕ → Sends
+gives_up c t refusals d =
+    if is_quorum c (added nat_cmp refusals d) && not (is_quorum c refusals) then one (coordinator (home c t)) (Abandon t) else []
+
+-- a refusal of the client's own ballot, the first of d
+abbrev pub counts_refusal : Client → ℕ → ℕ → Bool
+counts_refusal x b d = (b == 0) && (is_proposed x.phase && not (member nat_cmp x.refusals d))
+
+abbrev pub on_refused : Layout → ℕ → Client → ℕ → ℕ → Reason → ClientAct
+on_refused c t x b d reason =
+    if counts_refusal x b d
+    then record { after = with_refusal x d; sends = gives_up c t x.refusals d; lines = RefusedLine t d reason ∷ []; worn = false }
+    else client_stays x
+
+-- a message that no row names is ignored
+abbrev pub client_row : Layout → ℕ → Client → Msg → ClientAct
+client_row c t x (Granted u k d version value) = on_granted c t x k (record { dc = d; version = version; value = value })
+client_row c t x (Voted u b d o) = on_voted c t x b d o
+client_row c t x (Refused u b d reason) = on_refused c t x b d reason
+client_row c t x (Decided u o) = on_decided t x o
+client_row c t x _ = client_stays x

@@ -1,0 +1,3 @@
+-- Lemmas that several proofs share.
+pub mod Acted
+pub mod Rest

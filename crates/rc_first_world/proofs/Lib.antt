@@ -1,0 +1,4 @@
+pub mod Takes
+pub mod Logs
+pub mod Deeds
+pub mod Settling

@@ -1,0 +1,230 @@
+-- What an append leaves of a disk that tells its calls.
+use Rattle.std.proofs.Common.{◌≡◌, ℕ, ◌+◌, ◌^◌, ◌<◌, ◌≤◌, ◌==◌, ◌||◌, Bool, true, false, if◌then◌else◌, List, [], ◌∷◌, ◌++◌, length, drop, Option, None, Some, option_map, IfSome, Ok, refl, sym, ap, ◌∙◌, subst, arith}
+use Rattle.std.specs.Option.{ForSome}
+use Rattle.std.proofs.lemmas.Bool.Decides.{nat_tests}
+use Rattle.std.proofs.lemmas.List.Sums.{sum_by-append}
+use Rattle.rc_disk.specs.declared.power.Cause.{Cause}
+use Rattle.rc_disk.specs.declared.power.Cause.TheVariants.{ByList, ByCut, WhileOff}
+use Rattle.rc_disk.specs.Calls.{Told, Images, Numbers, Call, Writes, Syncs, effect, filled, image, made, settled, seen, images_failed, did, after, cause_at, power_after}
+use Rattle.rc_disk.specs.Counts.{AreCounted}
+use Rattle.rc_log.specs.Records.{records, size_of, behind_gate}
+use Rattle.rc_log.specs.Append.{listed, listed_in, IsSettled, FailedAt, AreStill, append_calls, all_done, stopped_at, numbers_of, counted_by, stopped_by, keeps, with_or_without}
+use Rattle.rc_log.proofs.Frames.{Parts, parts_of}
+use Rattle.rc_log.proofs.Images.{still, gated}
+use Rattle.rc_log.proofs.Crashes.{same_some}
+
+-- the bytes that a cut of the power leaves, by tests of its pick
+by_pick : (im : Images) (rs : Bool → List (List ℕ)) (a b d : Bool) → (a ≡ true → (b || d) ≡ false) → records im.synced ≡ Ok (rs false) → records im.plain ≡ Ok (rs true) → records im.ones ≡ Ok (rs true) → records im.full ≡ Ok (rs false)
+    → records (if a then im.synced else (if b then im.plain else (if d then im.ones else im.full))) ≡ Ok (rs (b || d))
+by_pick im rs true b d none synced plain ones full = synced ∙ ap (λ (t : Bool). Ok (rs t)) (sym (none refl))
+by_pick im rs false true d none synced plain ones full = plain
+by_pick im rs false false true none synced plain ones full = ones
+by_pick im rs false false false none synced plain ones full = full
+
+picked : (im : Images) (rs : Bool → List (List ℕ)) (pick : ℕ) → records im.synced ≡ Ok (rs false) → records im.plain ≡ Ok (rs true) → records im.ones ≡ Ok (rs true) → records im.full ≡ Ok (rs false)
+    → records (image pick im) ≡ Ok (rs ((pick == 1) || (pick == 3)))
+picked im rs pick synced plain ones full = by_pick im rs (pick == 0) (pick == 1) (pick == 3) (zero_only pick) synced plain ones full
+  where
+    zero_only : (k : ℕ) → (k == 0) ≡ true → ((k == 1) || (k == 3)) ≡ false
+    zero_only k h = grind (arith, nat_tests)
+
+module _ (c : List ℕ) (rs : List (List ℕ)) (r : List ℕ) (place : ℕ) (whole : records c ≡ Ok rs) (at : place ≡ size_of rs) (short : length r < 2 ^ 32) where
+  abbrev first : Call
+  first = Writes (place + 1) (behind_gate r)
+
+  abbrev gate : Call
+  gate = Writes place (1 ∷ [])
+
+  abbrev c1 : List ℕ
+  c1 = effect first c
+
+  parts : Parts c rs
+  parts = parts_of c rs whole
+
+  behind_shut : (bytes : List ℕ) → records (effect (Writes (place + 1) bytes) c) ≡ Ok rs
+  behind_shut bytes = still c rs r place parts at short bytes (drop (place + 1 + length bytes) c)
+
+  pub with_gate : (m : ℕ) → records (effect (Writes place (m ∷ [])) c1) ≡ Ok (with_or_without (m == 1) rs r)
+  with_gate m = gated c rs r place parts at short m
+
+  first_image : (pick : ℕ) → records (image pick (made first (settled c))) ≡ Ok rs
+  first_image pick = picked (made first (settled c)) (λ (t : Bool). rs) pick whole (behind_shut (behind_gate r)) (behind_shut (filled 1 (behind_gate r))) (behind_shut (filled 255 (behind_gate r)))
+
+  gate_image : (pick : ℕ) → records (image pick (made gate (settled c1))) ≡ Ok (with_or_without ((pick == 1) || (pick == 3)) rs r)
+  gate_image pick = picked (made gate (settled c1)) (λ (t : Bool). with_or_without t rs r) pick (behind_shut (behind_gate r)) (with_gate 1) (with_gate 1) (with_gate 255)
+
+  pub kept1 : (cause : Cause) → records (images_failed cause first (settled c)).plain ≡ Ok (with_or_without (keeps 1 cause) rs r)
+  kept1 ByList = whole
+  kept1 (ByCut pick) = first_image pick
+  kept1 WhileOff = whole
+
+  pub kept2 : (cause : Cause) → records (images_failed cause Syncs (made first (settled c))).plain ≡ Ok (with_or_without (keeps 2 cause) rs r)
+  kept2 ByList = behind_shut (behind_gate r)
+  kept2 (ByCut pick) = first_image pick
+  kept2 WhileOff = behind_shut (behind_gate r)
+
+  pub kept3 : (cause : Cause) → records (images_failed cause gate (settled c1)).plain ≡ Ok (with_or_without (keeps 3 cause) rs r)
+  kept3 ByList = behind_shut (behind_gate r)
+  kept3 (ByCut pick) = gate_image pick
+  kept3 WhileOff = behind_shut (behind_gate r)
+
+  pub kept4 : (cause : Cause) → records (images_failed cause Syncs (made gate (settled c1))).plain ≡ Ok (with_or_without (keeps 4 cause) rs r)
+  kept4 ByList = with_gate 1
+  kept4 (ByCut pick) = gate_image pick
+  kept4 WhileOff = with_gate 1
+
+pub fuse : {A B C : Type 0} (f : B → C) (g : A → B) (o : Option A) → option_map f (option_map g o) ≡ option_map (λ a. f (g a)) o
+fuse f g None = refl
+fuse f g (Some a) = refl
+
+-- a call fails
+stop : (content : Option (List ℕ)) (ml : List ℕ → Type 0) (before now : Option Told) (len place : ℕ) (r : List ℕ) (n f f' k k' : ℕ) (cause_of : Told → Cause)
+    → IfSome before (λ t. AreCounted (cause_of t) false f f' k k') → IsSettled content ml before len place → IfSome before (λ t. content ≡ Some (seen t)) → 1 ≤ n → n ≤ 4
+    → now ≡ option_map (stopped_at n (append_calls place r)) before
+    → ((t : Told) → (stopped_at n (append_calls place r) t).numbers ≡ stopped_by n (cause_of t) t.numbers)
+    → ((c : List ℕ) → records c ≡ Ok (listed c) → place ≡ size_of (listed c) → (t : Told) → t.images ≡ settled c → records (seen (stopped_at n (append_calls place r) t)) ≡ Ok (with_or_without (keeps n (cause_of t)) (listed c) r))
+    → FailedAt before now (option_map listed content) place r f f' k k'
+stop content ml None now len place r n f f' k k' cause_of counts s law low high is numbers kept = record {
+  call = n;
+  cause = ByList;
+  low = low;
+  high = high;
+  whole_state = is;
+  counts = tt;
+  numbers = ap numbers_of is;
+  kept = subst (λ (o : Option Told). IfSome o (λ t. IfSome (option_map listed content) (λ rs. records (seen t) ≡ Ok (with_or_without (keeps n ByList) rs r)))) (sym is) tt;
+}
+stop content ml (Some t) now len place r n f f' k k' cause_of counts s law low high is numbers kept =
+    let c = t.images.plain in
+    let whole : records c ≡ Ok (listed c) = s.whole c law in
+    let at : place ≡ size_of (listed c) = s.place_is c law in
+    let left = kept c whole at t (s.synced t refl) in
+    record {
+      call = n;
+      cause = cause_of t;
+      low = low;
+      high = high;
+      whole_state = is;
+      counts = counts;
+      numbers = ap numbers_of is ∙ ap Some (numbers t);
+      kept = subst (λ (o : Option Told). IfSome o (λ u. IfSome (option_map listed content) (λ rs. records (seen u) ≡ Ok (with_or_without (keeps n (cause_of t)) rs r)))) (sym is)
+          (subst (λ (o : Option (List ℕ)). IfSome (option_map listed o) (λ rs. records (seen (stopped_at n (append_calls place r) t)) ≡ Ok (with_or_without (keeps n (cause_of t)) rs r))) (sym law) left);
+    }
+
+unfoldable pub with_calls : ℕ → Cause → Numbers → Numbers
+with_calls calls cause n = record { calls = calls; failed = n.failed ++ record { number = calls; cause = cause } ∷ [] }
+
+pub counted_as : (calls k : ℕ) (cause : Cause) (n : Numbers) → calls ≡ n.calls + k → with_calls calls cause n ≡ stopped_by k cause n
+unfolding with_calls
+counted_as calls k cause n is = ap (λ (m : ℕ). with_calls m cause n) is
+
+module _ (content : Option (List ℕ)) (ml : List ℕ → Type 0) (before now : Option Told) (len place : ℕ) (r : List ℕ) (s : IsSettled content ml before len place) (law : IfSome before (λ t. content ≡ Some (seen t))) (short : length r < 2 ^ 32) (f f' k k' : ℕ) where
+  abbrev Fails : Type 0
+  Fails = FailedAt before now (option_map listed content) place r f f' k k'
+
+  abbrev write : Call
+  write = Writes (place + 1) (behind_gate r)
+
+  abbrev open_gate : Call
+  open_gate = Writes place (1 ∷ [])
+
+  pub fails1 : IfSome before (λ t. AreCounted (cause_at t.power) false f f' k k') → now ≡ option_map (after write false) before → Fails
+  unfolding with_calls
+  fails1 counts is = stop content ml before now len place r 1 f f' k k' (λ t. cause_at t.power) counts s law (omega arith) (omega arith) is
+      (λ t. counted_as (t.numbers.calls + 1) 1 (cause_at t.power) t.numbers refl)
+      (λ c whole at t im. ap (λ (i : Images). records (images_failed (cause_at t.power) write i).plain) im ∙ kept1 c (listed c) r place whole at short (cause_at t.power))
+
+  pub fails2 : IfSome before (λ t. AreCounted (cause_at (power_after t.power)) false f f' k k') → (o1 : Option Told) → o1 ≡ option_map (after write true) before → now ≡ option_map (after Syncs false) o1 → Fails
+  unfolding with_calls
+  fails2 counts o1 is1 is = stop content ml before now len place r 2 f f' k k' (λ t. cause_at (power_after t.power)) counts s law (omega arith) (omega arith)
+      (is ∙ ap (option_map (after Syncs false)) is1 ∙ fuse _ _ before)
+      (λ t. counted_as (t.numbers.calls + 1 + 1) 2 (cause_at (power_after t.power)) t.numbers (omega arith))
+      (λ c whole at t im. ap (λ (i : Images). records (images_failed (cause_at (power_after t.power)) Syncs (made write i)).plain) im ∙ kept2 c (listed c) r place whole at short (cause_at (power_after t.power)))
+
+  pub fails3 : IfSome before (λ t. AreCounted (cause_at (power_after (power_after t.power))) false f f' k k') → (o1 o2 : Option Told) → o1 ≡ option_map (after write true) before → o2 ≡ option_map (after Syncs true) o1 → now ≡ option_map (after open_gate false) o2 → Fails
+  unfolding with_calls
+  fails3 counts o1 o2 is1 is2 is = stop content ml before now len place r 3 f f' k k' (λ t. cause_at (power_after (power_after t.power))) counts s law (omega arith) (omega arith)
+      (is ∙ ap (option_map (after open_gate false)) (is2 ∙ ap (option_map (after Syncs true)) is1 ∙ fuse _ _ before) ∙ fuse _ _ before)
+      (λ t. counted_as (t.numbers.calls + 1 + 1 + 1) 3 (cause_at (power_after (power_after t.power))) t.numbers (omega arith))
+      (λ c whole at t im. ap (λ (i : Images). records (images_failed (cause_at (power_after (power_after t.power))) open_gate (settled (made write i).plain)).plain) im
+      ∙ kept3 c (listed c) r place whole at short (cause_at (power_after (power_after t.power))))
+
+  pub fails4 : IfSome before (λ t. AreCounted (cause_at (power_after (power_after (power_after t.power)))) false f f' k k') → (o1 o2 o3 : Option Told) → o1 ≡ option_map (after write true) before → o2 ≡ option_map (after Syncs true) o1 → o3 ≡ option_map (after open_gate true) o2 → now ≡ option_map (after Syncs false) o3 → Fails
+  unfolding with_calls
+  fails4 counts o1 o2 o3 is1 is2 is3 is = stop content ml before now len place r 4 f f' k k' (λ t. cause_at (power_after (power_after (power_after t.power)))) counts s law (omega arith) (omega arith)
+      (is ∙ ap (option_map (after Syncs false)) (is3 ∙ ap (option_map (after open_gate true)) (is2 ∙ ap (option_map (after Syncs true)) is1 ∙ fuse _ _ before) ∙ fuse _ _ before) ∙ fuse _ _ before)
+      (λ t. counted_as (t.numbers.calls + 1 + 1 + 1 + 1) 4 (cause_at (power_after (power_after (power_after t.power)))) t.numbers (omega arith))
+      (λ c whole at t im. ap (λ (i : Images). records (images_failed (cause_at (power_after (power_after (power_after t.power)))) Syncs (made open_gate (settled (made write i).plain))).plain) im
+      ∙ kept4 c (listed c) r place whole at short (cause_at (power_after (power_after (power_after t.power)))))
+
+  pub whole_run : (o1 o2 o3 : Option Told) → o1 ≡ option_map (after write true) before → o2 ≡ option_map (after Syncs true) o1 → o3 ≡ option_map (after open_gate true) o2 → now ≡ option_map (after Syncs true) o3
+      → now ≡ option_map (all_done (append_calls place r)) before
+  whole_run o1 o2 o3 is1 is2 is3 is =
+      is ∙ ap (option_map (after Syncs true)) (is3 ∙ ap (option_map (after open_gate true)) (is2 ∙ ap (option_map (after Syncs true)) is1 ∙ fuse _ _ before) ∙ fuse _ _ before) ∙ fuse _ _ before
+
+abbrev with_sum : ℕ → Numbers → Numbers
+with_sum m n = record { calls = m; failed = n.failed }
+
+-- all calls of an append are counted
+pub all_counted : (before now : Option Told) (place : ℕ) (r : List ℕ) → now ≡ option_map (all_done (append_calls place r)) before → numbers_of now ≡ option_map (counted_by 4) (numbers_of before)
+all_counted None now place r is = ap numbers_of is
+all_counted (Some t) now place r is = ap numbers_of is ∙ ap (λ (m : ℕ). Some (with_sum m t.numbers)) (omega arith)
+
+-- COUNTS
+
+-- a call that was done moves no count
+pub count_next : (before now : Option Told) (call : Call) (f0 f f' k0 k k' : ℕ) (cause_of : Told → Cause) → now ≡ option_map (did call) before
+    → IfSome before (λ t. AreCounted (cause_at t.power) true f0 f k0 k) → IfSome now (λ u. AreCounted (cause_of u) false f f' k k')
+    → IfSome before (λ t. AreCounted (cause_of (did call t)) false f0 f' k0 k')
+count_next None now call f0 f f' k0 k k' cause_of is done failed = tt
+count_next (Some t) now call f0 f f' k0 k k' cause_of is done failed =
+    let last = subst (λ (o : Option Told). IfSome o (λ u. AreCounted (cause_of u) false f f' k k')) is failed in
+    let to_start = subst (λ (g : ℕ). AreCounted (cause_of (did call t)) false g f' k k') done.all_faults last in
+    subst (λ (g : ℕ). AreCounted (cause_of (did call t)) false f0 f' g k') done.of_cuts to_start
+
+pub still_next : (before now : Option Told) (call : Call) (f0 f f' k0 k k' : ℕ) → now ≡ option_map (did call) before
+    → IfSome before (λ t. AreCounted (cause_at t.power) true f0 f k0 k) → IfSome now (λ u. AreStill f f' k k') → IfSome before (λ t. AreStill f0 f' k0 k')
+still_next None now call f0 f f' k0 k k' is done rest = tt
+still_next (Some t) now call f0 f f' k0 k k' is done rest =
+    let last = subst (λ (o : Option Told). IfSome o (λ u. AreStill f f' k k')) is rest in
+    record { same_faults = last.same_faults ∙ done.all_faults; same_cuts = last.same_cuts ∙ done.of_cuts }
+
+pub still_one : (before : Option Told) (f f' k k' : ℕ) → IfSome before (λ t. AreCounted (cause_at t.power) true f f' k k') → IfSome before (λ t. AreStill f f' k k')
+still_one None f f' k k' done = tt
+still_one (Some t) f f' k k' done = record { same_faults = done.all_faults; same_cuts = done.of_cuts }
+
+-- after a sync nothing is pending
+pub nothing_pending : (o now : Option Told) → now ≡ option_map (after Syncs true) o → ForSome now (λ t. t.images ≡ settled t.images.plain)
+nothing_pending o now is = subst (λ (x : Option Told). ForSome x (λ t. t.images ≡ settled t.images.plain)) (sym is) (at_sync o)
+  where
+    at_sync : (o : Option Told) → ForSome (option_map (after Syncs true) o) (λ t. t.images ≡ settled t.images.plain)
+    at_sync None t is = absurd (cc)
+    at_sync (Some u) t is = let same : did Syncs u ≡ t = cc in subst (λ (v : Told). v.images ≡ settled v.images.plain) same refl
+
+-- an append that was done
+pub record Grew (old new : Option (List ℕ)) (place : ℕ) (r : List ℕ) : Type 0 where
+  pub records_are : option_map listed new ≡ option_map (λ (rs : List (List ℕ)). rs ++ r ∷ []) (option_map listed old)
+  pub whole : ForSome new (λ c. records c ≡ Ok (listed c))
+  pub place_is : ForSome new (λ c. place + 5 + length r ≡ size_of (listed c))
+
+grew_in : (c c2 : List ℕ) (place : ℕ) (r : List ℕ) → place ≡ size_of (listed c) → records c2 ≡ Ok (listed c ++ r ∷ []) → Grew (Some c) (Some c2) place r
+grew_in c c2 place r at is =
+    let listed_is : listed c2 ≡ listed c ++ r ∷ [] = ap listed_in is in
+    record {
+      records_are = ap Some listed_is;
+      whole = λ d same. let e = same_some c2 d same in subst (λ (l : List ℕ). records l ≡ Ok (listed l)) e (is ∙ ap Ok (sym listed_is));
+      place_is = λ d same.
+          let e = same_some c2 d same in
+          subst (λ (l : List ℕ). place + 5 + length r ≡ size_of (listed l)) e
+          (omega (arith, at, sum_by-append (λ (l : List ℕ). length l + 5) (listed c) (r ∷ []), ap size_of listed_is));
+    }
+
+pub grew : (old new : Option (List ℕ)) (ml : List ℕ → Type 0) (told : Option Told) (len place : ℕ) (r : List ℕ) → IsSettled old ml told len place → length r < 2 ^ 32
+    → new ≡ option_map (effect (Writes place (1 ∷ []))) (option_map (effect (Writes (place + 1) (behind_gate r))) old) → Grew old new place r
+grew None new ml told len place r s short is = subst (λ (o : Option (List ℕ)). Grew None o place r) (sym is) nothing
+  where
+    nothing : Grew None None place r
+    nothing = record { records_are = refl; whole = λ d same. absurd (cc (same)); place_is = λ d same. absurd (cc (same)) }
+grew (Some c) new ml told len place r s short is =
+    subst (λ (o : Option (List ℕ)). Grew (Some c) o place r) (sym is)
+    (grew_in c (effect (Writes place (1 ∷ [])) (effect (Writes (place + 1) (behind_gate r)) c)) place r (s.place_is c refl) (with_gate c (listed c) r place (s.whole c refl) (s.place_is c refl) short 1))

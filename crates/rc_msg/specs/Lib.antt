@@ -1,0 +1,3 @@
+-- The one spelling of each message, and how it is read.
+pub mod Spelling
+pub mod Reading

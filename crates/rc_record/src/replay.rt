@@ -1,0 +1,261 @@
+// What a log gives back.
+ghost use Rattle.std.specs.Prelude.{◌≡◌, ◌≢◌, Ok, Err, IfOk, IfErr, OnOk};
+ghost use Rattle.rc_record.specs.Heads.{same_node as same_node_lem, same_world as same_world_lem, is_of as is_of_lem};
+ghost use Rattle.rc_record.specs.Kinds.{is_shard_record as is_shard_record_lem, is_coord_record as is_coord_record_lem};
+ghost use Rattle.rc_record.specs.ShardState.{shard_applied};
+ghost use Rattle.rc_record.specs.CoordState.{coord_applied};
+ghost use Rattle.rc_record.specs.Replay.{next_format as next_format_lem, is_refused as is_refused_lem, format_behind as format_behind_lem, shard_step as shard_step_lem, coord_step as coord_step_lem, shard_replay, coord_replay, head_in as head_in_lem, newest_head as newest_head_lem};
+ghost use Rattle.rc_record.specs.declared.fault.ReplayFault.TheVariants.{NoMemory as OutOfMemory};
+
+use crate::kinds::{has_gone, head_of, is_coord_record, is_shard_record};
+use crate::{CoordDurable, Head, Record, ReplayFault, ShardDurable, decode};
+use rc_ids::{Blob, Blobs, Cluster, NoMemory, NodeId};
+use std::alloc::Global;
+
+fn same_node(first: &NodeId, second: &NodeId) -> bool
+    ensures { result ≡ same_node_lem first.now second.now }
+{
+    match first {
+        NodeId::Coord(dc) => match second {
+            NodeId::Coord(other) => dc == other,
+            NodeId::Shard(_, _) => false,
+        },
+        NodeId::Shard(dc, shard) => match second {
+            NodeId::Coord(_) => false,
+            NodeId::Shard(other, other_shard) => dc == other && shard == other_shard,
+        },
+    }
+}
+
+fn same_world(first: &Cluster, second: &Cluster) -> bool
+    ensures { result ≡ same_world_lem first.now second.now }
+{
+    first.dcs() == second.dcs()
+        && first.shards() == second.shards()
+        && first.splits() == second.splits()
+        && first.quorum().weights() == second.quorum().weights()
+}
+
+/// Whether it is the head of a log of the node in this world.
+fn is_of(node: &NodeId, cluster: &Cluster, head: &Head) -> bool
+    ensures { result ≡ is_of_lem node.now cluster.now head.now }
+{
+    same_node(&head.node(), node) && same_world(head.cluster(), cluster)
+}
+
+/// The format behind a head at this place, or why it may not stand there.
+fn next_format(
+    node: &NodeId,
+    cluster: &Cluster,
+    place: u64,
+    format: u8,
+    head: &Head,
+) -> Result<u8, ReplayFault>
+    ensures { result ≡ next_format_lem node.now cluster.now place format head.now }
+{
+    if format == 0 {
+        if is_of(node, cluster, head) {
+            Ok(head.format())
+        } else {
+            Err(ReplayFault::OtherWorld)
+        }
+    } else if format < head.format() && is_of(node, cluster, head) {
+        Ok(head.format())
+    } else {
+        Err(ReplayFault::BadRecord { index: place })
+    }
+}
+
+/// Whether a record that is no head may not stand there.
+fn is_refused(is_kind: bool, format: u8, entry: &Record) -> bool
+    ensures { result ≡ is_refused_lem is_kind format entry.now }
+{
+    format == 0 || !is_kind || (format == 1 && has_gone(entry))
+}
+
+/// The format behind a record of a shard server's log at this place, or why it may not stand there.
+fn shard_format(
+    node: &NodeId,
+    cluster: &Cluster,
+    place: u64,
+    format: u8,
+    entry: &Record,
+) -> Result<u8, ReplayFault>
+    ensures { result ≡ format_behind_lem node.now cluster.now is_shard_record_lem place format entry.now }
+{
+    match head_of(entry) {
+        Some(head) => next_format(node, cluster, place, format, head),
+        None => {
+            if is_refused(is_shard_record(entry), format, entry) {
+                Err(ReplayFault::BadRecord { index: place })
+            } else {
+                Ok(format)
+            }
+        }
+    }
+}
+
+/// The format behind a record of a coordinator's log at this place, or why it may not stand there.
+fn coord_format(
+    node: &NodeId,
+    cluster: &Cluster,
+    place: u64,
+    format: u8,
+    entry: &Record,
+) -> Result<u8, ReplayFault>
+    ensures { result ≡ format_behind_lem node.now cluster.now is_coord_record_lem place format entry.now }
+{
+    match head_of(entry) {
+        Some(head) => next_format(node, cluster, place, format, head),
+        None => {
+            if is_refused(is_coord_record(entry), format, entry) {
+                Err(ReplayFault::BadRecord { index: place })
+            } else {
+                Ok(format)
+            }
+        }
+    }
+}
+
+/// Makes of the durable state what the record makes of it.
+fn shard_apply(durable: &mut ShardDurable, entry: Record) -> Result<(), NoMemory>
+    ensures { OnOk result (durable.new ≡ shard_applied durable.old entry) }
+{
+    match entry {
+        Record::Prepared(tx, part) => durable.prepare(tx, part),
+        Record::Finished(page) => durable.settle_page(&page),
+        _ => Ok(()),
+    }
+}
+
+/// Makes of the durable state what the record makes of it.
+fn coord_apply(durable: &mut CoordDurable, entry: Record) -> Result<(), NoMemory>
+    ensures { OnOk result (durable.new ≡ coord_applied durable.old entry) }
+{
+    match entry {
+        Record::Promised(tx, ballot) => durable.promise(tx, ballot),
+        Record::Accepted(tx, ballot, decision) => durable.accept(tx, ballot, decision),
+        Record::Decided(page) => durable.decide(&page),
+        _ => Ok(()),
+    }
+}
+
+/// One more record of a shard server's log, at this place: the format behind it, and what it makes of the durable state.
+fn shard_step(
+    alloc: Global,
+    node: &NodeId,
+    cluster: &Cluster,
+    place: u64,
+    format: u8,
+    durable: &mut ShardDurable,
+    blob: &Blob,
+) -> Result<u8, ReplayFault>
+    ensures ok { IfOk result (λ behind. shard_step_lem node.now cluster.now place (format, durable.old) blob.now ≡ Ok (behind, durable.new)) }
+    ensures err { IfErr result (λ e. e ≢ OutOfMemory → shard_step_lem node.now cluster.now place (format, durable.old) blob.now ≡ Err e) }
+{
+    let Some(entry) = decode(alloc, blob.as_bytes())? else {
+        return Err(ReplayFault::BadRecord { index: place });
+    };
+    let behind = shard_format(node, cluster, place, format, &entry)?;
+    shard_apply(durable, entry)?;
+    Ok(behind)
+}
+
+/// One more record of a coordinator's log, at this place: the format behind it, and what it makes of the durable state.
+fn coord_step(
+    alloc: Global,
+    node: &NodeId,
+    cluster: &Cluster,
+    place: u64,
+    format: u8,
+    durable: &mut CoordDurable,
+    blob: &Blob,
+) -> Result<u8, ReplayFault>
+    ensures ok { IfOk result (λ behind. coord_step_lem node.now cluster.now place (format, durable.old) blob.now ≡ Ok (behind, durable.new)) }
+    ensures err { IfErr result (λ e. e ≢ OutOfMemory → coord_step_lem node.now cluster.now place (format, durable.old) blob.now ≡ Err e) }
+{
+    let Some(entry) = decode(alloc, blob.as_bytes())? else {
+        return Err(ReplayFault::BadRecord { index: place });
+    };
+    let behind = coord_format(node, cluster, place, format, &entry)?;
+    coord_apply(durable, entry)?;
+    Ok(behind)
+}
+
+/// What the log of a shard server of this world gives back, or the first record that is refused. A log without a record is new.
+pub fn replay_shard(
+    alloc: Global,
+    node: NodeId,
+    cluster: &Cluster,
+    blobs: &Blobs,
+) -> Result<ShardDurable, ReplayFault>
+    ensures ok { IfOk result (λ durable. shard_replay node cluster.now blobs.now ≡ Ok durable) }
+    ensures err { IfErr result (λ e. e ≢ OutOfMemory → shard_replay node cluster.now blobs.now ≡ Err e) }
+{
+    let mut durable = ShardDurable::new(alloc);
+    let mut format = 0;
+    let log = blobs.as_slice();
+    for place in 0..log.len() {
+        format = shard_step(
+            alloc,
+            &node,
+            cluster,
+            place as u64,
+            format,
+            &mut durable,
+            &log[place],
+        )?;
+    }
+    Ok(durable)
+}
+
+/// What the log of a coordinator of this world gives back, or the first record that is refused. A log without a record is new.
+pub fn replay_coord(
+    alloc: Global,
+    node: NodeId,
+    cluster: &Cluster,
+    blobs: &Blobs,
+) -> Result<CoordDurable, ReplayFault>
+    ensures ok { IfOk result (λ durable. coord_replay node cluster.now blobs.now ≡ Ok durable) }
+    ensures err { IfErr result (λ e. e ≢ OutOfMemory → coord_replay node cluster.now blobs.now ≡ Err e) }
+{
+    let mut durable = CoordDurable::new(alloc);
+    let mut format = 0;
+    let log = blobs.as_slice();
+    for place in 0..log.len() {
+        format = coord_step(
+            alloc,
+            &node,
+            cluster,
+            place as u64,
+            format,
+            &mut durable,
+            &log[place],
+        )?;
+    }
+    Ok(durable)
+}
+
+/// The head that the bytes spell, if they spell one.
+fn head_in(alloc: Global, blob: &Blob) -> Result<Option<Head>, NoMemory>
+    ensures { IfOk result (λ head. head ≡ head_in_lem blob.now) }
+{
+    match decode(alloc, blob.as_bytes())? {
+        Some(Record::Head(head)) => Ok(Some(head)),
+        _ => Ok(None),
+    }
+}
+
+/// The last head of the log, if it has one.
+pub fn newest_head(alloc: Global, blobs: &Blobs) -> Result<Option<Head>, NoMemory>
+    ensures { IfOk result (λ head. head ≡ newest_head_lem blobs.now) }
+{
+    let log = blobs.as_slice();
+    for behind in 0..log.len() {
+        let found = head_in(alloc, &log[log.len() - 1 - behind])?;
+        if found.is_some() {
+            return Ok(found);
+        }
+    }
+    Ok(None)
+}

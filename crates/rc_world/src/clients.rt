@@ -1,0 +1,75 @@
+// Clients by their transactions.
+ghost use Rattle.std.specs.Prelude.{◌≡◌, ◌++◌, [], Some, None, false, OnOk, IfOk, IfErr};
+ghost use Rattle.std.specs.Ordering.{nat_cmp};
+ghost use Rattle.rc_ids.specs.Tables.{found};
+ghost use Rattle.rc_client.specs.Acts.{Does};
+ghost use Rattle.rc_protocol.specs.Client.{Client as ClientState};
+ghost use Rattle.rc_protocol.specs.World.{replaced};
+ghost use Rattle.rc_world.specs.Acted.{client_act as client_act_lem, May, Wears};
+ghost use Rattle.rc_world.specs.declared.fault.ActFault.TheVariants.{NoMemory as OutOfMemory};
+
+use crate::fault::ActFault;
+use crate::network::message;
+use rc_client::Client;
+use rc_ids::{Cluster, TxId};
+use rc_msg::{Envelope, Outbox};
+use rc_protocol::Event;
+use rc_report::Lines;
+use std::alloc::Global;
+use std::collections::BTreeMap;
+
+/// A client does its part in an event.
+fn client_act(
+    client: &mut Client,
+    cluster: &Cluster,
+    tx: TxId,
+    sent: &[Envelope],
+    event: &Event,
+    out: &mut Outbox,
+    lines: &mut Lines,
+) -> Result<(), ActFault>
+    requires { May event.now client.old }
+    ensures done { OnOk result (Does (client_act_lem cluster.now tx sent.now event.now client.old) client.new out.old out.new lines.old lines.new) }
+    ensures worn { IfErr result (λ e. Wears e (client_act_lem cluster.now tx sent.now event.now client.old)) }
+{
+    match event {
+        Event::Read(_, key) => client.read(cluster, tx, key, out, lines)?,
+        Event::Write(_, key, value) => client.write(key, value)?,
+        Event::Commit(_) => client.commit(cluster, tx, out)?,
+        Event::Cancel(_, key) => client.cancel(cluster, tx, key, out)?,
+        Event::Retry(_) => client.retry(cluster, tx, out)?,
+        Event::Vanish(_) => client.vanish(),
+        Event::Deliver(number) => {
+            if let Some(envelope) = message(sent, *number) {
+                client.handle(cluster, tx, &envelope.msg, out, lines)?;
+            }
+        }
+        _ => {}
+    }
+    Ok(())
+}
+
+/// The client of a transaction does its part in an event, if there is one.
+pub(crate) fn client_acts(
+    clients: &mut BTreeMap<TxId, Client>,
+    alloc: Global,
+    cluster: &Cluster,
+    tx: TxId,
+    sent: &[Envelope],
+    event: &Event,
+    lines: &mut Lines,
+) -> Result<Outbox, ActFault>
+    requires { (x : ClientState) → found nat_cmp clients.old.entries tx ≡ Some x → May event.now x }
+    ensures outside { IfOk result (λ out. found nat_cmp clients.old.entries tx ≡ None → (clients.new.entries ≡ clients.old.entries) × (out ≡ []) × (lines.new ≡ lines.old)) }
+    ensures done { IfOk result (λ out. (x : ClientState) → found nat_cmp clients.old.entries tx ≡ Some x →
+        let act = client_act_lem cluster.now tx sent.now event.now x in
+        (clients.new.entries ≡ replaced clients.old.entries tx act.after) × (out ≡ act.sends) × (lines.new ≡ lines.old ++ act.lines) × (act.worn ≡ false)) }
+    ensures worn { IfErr result (λ e. (x : ClientState) → found nat_cmp clients.old.entries tx ≡ Some x → Wears e (client_act_lem cluster.now tx sent.now event.now x)) }
+    ensures outside_refused { IfErr result (λ e. found nat_cmp clients.old.entries tx ≡ None → e ≡ OutOfMemory) }
+{
+    let mut out = Outbox::new(alloc);
+    if let Some(client) = clients.get_mut(&tx) {
+        client_act(client, cluster, tx, sent, event, &mut out, lines)?;
+    }
+    Ok(out)
+}
