@@ -1,6 +1,7 @@
 -- What the contracts of this crate and of those above it cite.
 pub mod Ballots
 pub mod Cluster
+pub mod Letters
 pub mod Marks
 pub mod Padded
 pub mod Quorum

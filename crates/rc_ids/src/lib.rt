@@ -9,6 +9,7 @@ mod memory;
 mod names;
 mod numbers;
 mod quorum;
+mod sends;
 mod sets;
 #[cfg(test)]
 mod tests;
@@ -23,6 +24,7 @@ pub use memory::NoMemory;
 pub use names::{NodeId, Outcome, Party};
 pub use numbers::{Ballot, DcId, ShardId, TxId, Version};
 pub use quorum::{Quorum, quorum_laws};
+pub use sends::{Letter, Sends};
 pub use sets::{DcSet, ShardSet};
 pub use texts::{check_key, check_text, is_key_byte, is_value_byte};
 pub use val::Val;

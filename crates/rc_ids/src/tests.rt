@@ -51,6 +51,31 @@ fn lists(rt: HostRuntime) -> Result<(), Fail> {
     Ok(())
 }
 
+fn letter(alloc: Global, tx: TxId) -> Result<Letter, Fail> {
+    Ok(Letter {
+        to: Party::Client(tx),
+        bytes: Blob::from_bytes(alloc, b"ab")?,
+        mark: false,
+    })
+}
+
+#[test]
+fn sends(rt: HostRuntime) -> Result<(), Fail> {
+    let alloc = rt.alloc();
+    let mut sends = Sends::new(alloc);
+    sends.push(letter(alloc, TxId(1))?)?;
+    sends.push(letter(alloc, TxId(2))?)?;
+    sends.push(letter(alloc, TxId(3))?)?;
+    sends.set_mark(1, true);
+    sends.cut(2);
+    let letters = sends.as_slice();
+    assert_eq!(rt; letters.len(), 2);
+    assert!(rt; !letters[0].mark);
+    assert!(rt; letters[1].mark);
+    assert_eq!(rt; letters[1].bytes.as_bytes(), b"ab".as_slice());
+    Ok(())
+}
+
 fn splits(alloc: Global) -> Result<Vec<Key>, Fail> {
     let mut splits = Vec::new(alloc);
     splits.push(Key::new(b"g")?)?;
