@@ -2,13 +2,13 @@
 #![tactic(auto)]
 
 ghost use Rattle.std.specs.Prelude.{IfOk};
-ghost use Rattle.rc_play.specs.Play.{IsAnswer};
+ghost use Rattle.rc_player.specs.Play.{IsAnswer};
 
-mod play;
 #[cfg(test)]
 mod tests;
 
 use rc_ids::NoMemory;
+use rc_player::play;
 use rc_ports::{HostSink, HostSource, Status, Word};
 use std::env;
 use std::io::{BufReader, BufWriter, Write, writer};
@@ -35,7 +35,7 @@ fn run(rt: &HostRuntime) -> Result<Status, NoMemory>
     let printer = BufWriter::with_capacity(rt.alloc(), BUFFER_BYTES, writer(rt));
     let mut source = HostSource::new(reader.map_err(|_| NoMemory)?);
     let mut sink = HostSink::new(printer.map_err(|_| NoMemory)?);
-    let status = play::play(rt.alloc(), words.as_slice(), &mut source, &mut sink);
+    let status = play(rt.alloc(), words.as_slice(), &mut source, &mut sink);
     Ok(match sink.into_writer().flush() {
         Ok(()) => status,
         Err(_) => Status::WriteFault,

@@ -1,7 +1,7 @@
 -- The numbers of the statuses.
 use Rattle.std.specs.Prelude.{ℕ}
 use Rattle.rc_ports.specs.declared.status.Status.{Status}
-use Rattle.rc_ports.specs.declared.status.Status.TheVariants.{Done, BadWords, BadScript, Limit, ReadFault, WriteFault, FarmFault, NoMemory, SpawnFault, BadLog, NotBuilt, Disagreement}
+use Rattle.rc_ports.specs.declared.status.Status.TheVariants.{Done, BadWords, BadScript, Limit, ReadFault, WriteFault, FarmFault, NoMemory, SpawnFault, BadLog, Disagreement}
 
 -- what a program exits with
 abbrev pub status_number : Status → ℕ
@@ -15,5 +15,4 @@ status_number FarmFault = 7
 status_number NoMemory = 8
 status_number SpawnFault = 9
 status_number BadLog = 10
-status_number NotBuilt = 11
 status_number Disagreement = 12

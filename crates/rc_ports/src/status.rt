@@ -25,8 +25,6 @@ pub enum Status {
     SpawnFault = 9,
     /// A log is damaged, or is of another world.
     BadLog = 10,
-    /// The part that was asked for is not built.
-    NotBuilt = 11,
     /// Two answers that have to be the same differ.
     Disagreement = 12,
 }

@@ -1,5 +1,0 @@
-use Rattle.std.proofs.Common.{refl}
-use Rattle.rc_first_ballots.proofs.tally.Tally.would_decide.Goals as goal
-
-pub returns : goal.returns
-returns c = rw (c.holds.ensures, c.voters.ensures, c.with-standing.ensures, c.standing_at.ensures, c.quorum.ensures) refl

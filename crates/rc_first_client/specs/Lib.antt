@@ -1,5 +1,0 @@
--- What the contracts of this crate and of those above it cite.
-pub mod Acts
-pub mod Phases
-pub mod Reads
-pub mod Slots

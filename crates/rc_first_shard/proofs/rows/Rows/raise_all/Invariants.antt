@@ -1,6 +1,0 @@
-use Rattle.std.proofs.Common.{◌≡◌, drop}
-use Rattle.rc_first_protocol.specs.Shard.{set_rows}
-use Rattle.rc_first_shard.proofs.rows.Rows.raise_all.Given as goal
-
-abbrev pub invariant-loop-index : goal.invariant-loop-index
-invariant-loop-index l = set_rows l.self (drop l.index l.part) ≡ set_rows l.fn.self l.part

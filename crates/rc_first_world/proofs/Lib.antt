@@ -1,4 +1,0 @@
-pub mod Takes
-pub mod Logs
-pub mod Deeds
-pub mod Settling
