@@ -17,6 +17,8 @@ mod past;
 mod power;
 mod reads;
 mod shelf;
+#[cfg(test)]
+mod tests;
 
 pub use disk::Disk;
 pub use farm::{DeviceRefusal, Farm};
