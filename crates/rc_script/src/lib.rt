@@ -10,7 +10,7 @@ mod reading;
 mod script;
 mod stage;
 mod verb;
-mod words;
+pub mod words;
 
 pub use command::{Command, Numbers, Weights};
 pub use fault::ScriptFault;

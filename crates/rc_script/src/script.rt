@@ -28,7 +28,7 @@ impl Model for Script {
 
 impl Script {
     /// The script of these commands.
-    pub(crate) fn new(commands: Vec<NumberedCommand>) -> Self
+    pub fn new(commands: Vec<NumberedCommand>) -> Self
         ensures { result ≡ commands.items }
     {
         Script { commands }

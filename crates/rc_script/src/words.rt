@@ -15,7 +15,7 @@ pub(crate) fn place_of(text: &[u8], byte: u8) -> Option<usize>
 }
 
 /// What stands before the first such byte, and what stands behind it, where there is one.
-pub(crate) fn cut(text: &[u8], byte: u8) -> (&[u8], Option<&[u8]>)
+pub fn cut(text: &[u8], byte: u8) -> (&[u8], Option<&[u8]>)
     ensures { (result.0.now, option_map (λ x. x.now) result.1) ≡ cut_lem byte text.now }
 {
     match place_of(text, byte) {
@@ -25,7 +25,7 @@ pub(crate) fn cut(text: &[u8], byte: u8) -> (&[u8], Option<&[u8]>)
 }
 
 /// What follows this text at the front.
-pub(crate) fn behind<'a>(front: &[u8], text: &'a [u8]) -> Option<&'a [u8]>
+pub fn behind<'a>(front: &[u8], text: &'a [u8]) -> Option<&'a [u8]>
     ensures { option_map (λ x. x.now) result ≡ behind_lem front.now text.now }
 {
     text.strip_prefix(front)
@@ -76,7 +76,7 @@ fn number_up_to(limit: u32, word: &[u8]) -> Option<u32>
 }
 
 /// The decimal number in this range that the word spells.
-pub(crate) fn number_in(low: u32, high: u32, word: &[u8]) -> Option<u32>
+pub fn number_in(low: u32, high: u32, word: &[u8]) -> Option<u32>
     ensures value { result ≡ number_in_lem low high word.now }
     ensures range { IfSome result (λ n. (low ≤ n) × (n ≤ high)) }
 {
@@ -138,7 +138,7 @@ fn shard(shards: u8, word: &[u8]) -> Option<ShardId>
 }
 
 /// The node of this name, of a world of so many datacentres and shards.
-pub(crate) fn node(dcs: u8, shards: u8, word: &[u8]) -> Option<NodeId>
+pub fn node(dcs: u8, shards: u8, word: &[u8]) -> Option<NodeId>
     requires dcs { dcs ≤ 7 }
     requires shards { shards ≤ 8 }
     ensures { result ≡ node_of dcs shards word.now }
@@ -155,7 +155,7 @@ pub(crate) fn node(dcs: u8, shards: u8, word: &[u8]) -> Option<NodeId>
 }
 
 /// The key of these bytes.
-pub(crate) fn key(bytes: &[u8]) -> Option<Key>
+pub fn key(bytes: &[u8]) -> Option<Key>
     ensures { result ≡ key_of bytes.now }
 {
     match Key::new(bytes) {
@@ -165,7 +165,7 @@ pub(crate) fn key(bytes: &[u8]) -> Option<Key>
 }
 
 /// The value of these bytes.
-pub(crate) fn val(alloc: Global, bytes: &[u8]) -> Result<Option<Val>, NoMemory>
+pub fn val(alloc: Global, bytes: &[u8]) -> Result<Option<Val>, NoMemory>
     ensures { IfOk result (λ found. found ≡ val_of bytes.now) }
 {
     match Val::new(alloc, bytes) {
