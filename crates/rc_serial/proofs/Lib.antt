@@ -1,0 +1,4 @@
+mod Explained
+mod Rest
+mod Runs
+mod VersionFacts
