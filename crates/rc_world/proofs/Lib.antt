@@ -9,3 +9,6 @@ pub mod Shown
 pub mod Events
 pub mod Happenings
 pub mod NewSessions
+pub mod Stops
+pub mod ShardStops
+pub mod SiteEdits

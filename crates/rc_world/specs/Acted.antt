@@ -19,14 +19,14 @@ use Rattle.rc_protocol.specs.declared.event.Event.{Event}
 use Rattle.rc_protocol.specs.declared.event.Event.TheVariants.{Read, Write, Commit, Cancel, Retry, Vanish, Deliver}
 use Rattle.rc_protocol.specs.Messages.{Sends}
 use Rattle.rc_protocol.specs.Client.{Client, ClientAct, do_read, do_write, do_commit, do_cancel, do_retry, do_vanish, client_row, is_open}
-use Rattle.rc_protocol.specs.Coordinator.{CoordAct}
-use Rattle.rc_protocol.specs.Shard.{ShardAct}
-use Rattle.rc_protocol.specs.Nodes.{coord_place, shard_place}
+use Rattle.rc_protocol.specs.Coordinator.{CoordAct, do_catch, new_volatile}
+use Rattle.rc_protocol.specs.Shard.{ShardAct, do_catch as shard_catches, new_volatile as new_shard_volatile}
+use Rattle.rc_protocol.specs.Nodes.{coord_place, shard_place, coord_started, shard_started, coord_stopped, shard_stopped}
 use Rattle.rc_protocol.specs.Votes.{ordered}
 use Rattle.rc_protocol.specs.World.{Parties, Deed, Course, along, moved, sends_of, lines_of, message, new_start, coord_does, shard_does, client_does}
 use Rattle.rc_protocol.specs.Refusals.{is_full, worn_out}
-use Rattle.rc_protocol.specs.Devices.{Device, appended}
-use Rattle.rc_protocol.specs.Session.{DiskWork, no_device, no_work, append_of, append_work}
+use Rattle.rc_protocol.specs.Devices.{Device, appended, powered, opened_once, armed}
+use Rattle.rc_protocol.specs.Session.{DiskWork, no_device, no_work, work_on, append_of, append_work}
 use Rattle.rc_world.specs.declared.fault.ActFault.{ActFault}
 use Rattle.rc_world.specs.declared.fault.ActFault.TheVariants.{NoMemory, VersionSpent, BallotsSpent}
 use Rattle.rc_world.specs.Hosts.{CoordSite, ShardSite, coord_nodes, coord_devices, shard_nodes, shard_devices, coord_act, shard_act, coord_left, shard_left, course_for, device_for, record_left, sends_left, lines_left}
@@ -126,6 +126,52 @@ pub record ShardIdle (old new : List ShardSite) (out : Sends) (lines printed : L
   pub sites : new ≡ old
   pub sends : out ≡ []
   pub prints : printed ≡ lines
+
+-- STOPS, ARMED CUTS AND STARTS
+-- what each asks of the node's disk
+abbrev pub stop_work : Housed → NodeId → DiskWork
+stop_work h node = work_on node (Some (powered (disk_at h node)))
+
+abbrev pub arm_work : Housed → NodeId → ℕ → ℕ → DiskWork
+arm_work h node k pick = work_on node (Some (armed (disk_at h node) k pick))
+
+abbrev pub start_work : Housed → NodeId → DiskWork
+start_work h node = work_on node (opened_once (disk_at h node))
+
+-- what each leaves of the node with its disk
+abbrev pub stopped_coord : CoordSite → CoordSite
+stopped_coord x = record { node = coord_stopped x.node None; device = powered x.device }
+
+abbrev pub armed_coord : ℕ → ℕ → CoordSite → CoordSite
+armed_coord k pick x = record { node = x.node; device = armed x.device k pick }
+
+abbrev pub stopped_shard : ShardSite → ShardSite
+stopped_shard x = record { node = shard_stopped x.node None; device = powered x.device }
+
+abbrev pub armed_shard : ℕ → ℕ → ShardSite → ShardSite
+armed_shard k pick x = record { node = x.node; device = armed x.device k pick }
+
+-- a coordinator started from its log, and asks the others for what it missed
+pub record CoordStarts (c : Layout) (d : ℕ) (site : CoordSite) (old new : List CoordSite) (out : Sends) : Type 0 where
+  pub left : CoordSite
+  pub node : left.node ≡ coord_started site.node.log
+  pub device : opened_once site.device ≡ Some left.device
+  pub sites : new ≡ slice_set old (coord_place d) left
+  pub sends : out ≡ (do_catch c d new_volatile).sends
+
+pub record ShardStarts (d place : ℕ) (site : ShardSite) (old new : List ShardSite) (out : Sends) : Type 0 where
+  pub left : ShardSite
+  pub node : left.node ≡ shard_started site.node.log
+  pub device : opened_once site.device ≡ Some left.device
+  pub sites : new ≡ slice_set old place left
+  pub sends : out ≡ (shard_catches d new_shard_volatile).sends
+
+-- the log of the shard server at a place is open; the server is as it was
+pub record ShardOpens (place : ℕ) (site : ShardSite) (old new : List ShardSite) : Type 0 where
+  pub left : ShardSite
+  pub node : left.node ≡ site.node
+  pub device : opened_once site.device ≡ Some left.device
+  pub sites : new ≡ slice_set old place left
 
 -- CLIENTS
 abbrev pub client_stays : Client → ClientAct

@@ -1,16 +1,18 @@
 // Coordinators at their places.
-ghost use Rattle.std.specs.Prelude.{◌≡◌, ◌<◌, ◌++◌, true, false, IsTrue, OnOk, IfOk, IfErr, length, slice_get};
+ghost use Rattle.std.specs.Prelude.{◌≡◌, ◌<◌, ◌++◌, [], ◌∷◌, true, false, Some, IsTrue, OnOk, IfOk, IfErr, length, slice_get, slice_set};
 ghost use Rattle.rc_ids.specs.Cluster.{is_dc};
 ghost use Rattle.rc_protocol.specs.Nodes.{coord_place};
 ghost use Rattle.rc_world.specs.Hosts.{CoordSite, coord_act};
-ghost use Rattle.rc_world.specs.Acted.{CoordDone, CoordDid, CoordIdle, Lacking};
+ghost use Rattle.rc_world.specs.Acted.{CoordDone, CoordDid, CoordIdle, CoordStarts, Lacking, stopped_coord, armed_coord};
+ghost use Rattle.rc_ids.specs.declared.names.NodeId.TheVariants.{Coord as CoordName};
+ghost use Rattle.rc_report.specs.declared.line.Line.TheVariants.{Stopped as StoppedLine};
 
 use crate::coord_host::CoordHost;
 use crate::disk::Course;
 use crate::fault::ActFault;
 use crate::order::note_written;
 use rc_body::Body;
-use rc_ids::{Cluster, DcId, NodeId, TxId};
+use rc_ids::{Cluster, DcId, NoMemory, NodeId, TxId};
 use rc_msg::{Envelope, Outbox};
 use rc_protocol::Event;
 use rc_report::{Line, Lines};
@@ -69,5 +71,49 @@ pub(crate) fn coord_acts(
     let before = coords[place].log_len();
     let out = act_at(&mut coords[place], alloc, cluster, dc, sent, event, lines)?;
     note_written(cluster, coords.as_slice(), committed, place, before)?;
+    Ok(out)
+}
+
+/// The coordinator of a datacentre stops.
+pub(crate) fn coord_stops(
+    coords: &mut Vec<CoordHost>,
+    dc: DcId,
+    lines: &mut Lines,
+) -> Result<(), NoMemory>
+    requires { coord_place dc < length coords.old.items }
+    ensures length { length coords.new.items ≡ length coords.old.items }
+    ensures stopped { (h : CoordSite) → slice_get coords.old.items (coord_place dc) ≡ Some h
+        → coords.new.items ≡ slice_set coords.old.items (coord_place dc) (stopped_coord h) }
+    ensures prints { OnOk result (lines.new ≡ lines.old ++ StoppedLine (CoordName dc) ∷ []) }
+{
+    coords[dc.0 as usize - 1].stop();
+    lines.push(Line::Stopped(NodeId::Coord(dc)))
+}
+
+/// The power of the disk of a datacentre's coordinator is to be cut at this call from now on.
+pub(crate) fn coord_arms(coords: &mut Vec<CoordHost>, dc: DcId, call: u32, pick: u8)
+    requires inside { coord_place dc < length coords.old.items }
+    requires up { (h : CoordSite) → slice_get coords.old.items (coord_place dc) ≡ Some h → h.node.up ≡ true }
+    ensures length { length coords.new.items ≡ length coords.old.items }
+    ensures armed { (h : CoordSite) → slice_get coords.old.items (coord_place dc) ≡ Some h
+        → coords.new.items ≡ slice_set coords.old.items (coord_place dc) (armed_coord call pick h) }
+{
+    coords[dc.0 as usize - 1].arm(call, pick);
+}
+
+/// The coordinator of a datacentre starts from its log, and begins to catch up.
+pub(crate) fn coord_starts(
+    coords: &mut Vec<CoordHost>,
+    alloc: Global,
+    cluster: &Cluster,
+    dc: DcId,
+) -> Result<Outbox, NoMemory>
+    requires { coord_place dc < length coords.old.items }
+    ensures length { length coords.new.items ≡ length coords.old.items }
+    ensures started { IfOk result (λ out. (h : CoordSite) → slice_get coords.old.items (coord_place dc) ≡ Some h
+        → CoordStarts cluster.now dc h coords.old.items coords.new.items out) }
+{
+    let mut out = Outbox::new(alloc);
+    coords[dc.0 as usize - 1].restart(cluster, dc, &mut out)?;
     Ok(out)
 }

@@ -4,12 +4,12 @@ ghost use Rattle.std.specs.Option.{option_copied};
 ghost use Rattle.std.specs.Ordering.{nat_cmp};
 ghost use Rattle.rc_ids.specs.Cluster.{is_dc};
 ghost use Rattle.rc_ids.specs.Tables.{found, maybe};
-ghost use Rattle.rc_protocol.specs.Nodes.{coord_place};
+ghost use Rattle.rc_protocol.specs.Nodes.{coord_place, shard_place};
 ghost use Rattle.rc_protocol.specs.Refusals.{named_wrongly, is_begun as is_begun_lem};
 ghost use Rattle.rc_body.specs.declared.entry.Entry.{Entry};
 ghost use Rattle.rc_protocol.specs.Client.{Client as ClientState};
-ghost use Rattle.rc_protocol.specs.World.{coord_does, shard_does, client_does, with_new_client, is_up as is_up_lem, stops, restarts, moved, sends_of};
-ghost use Rattle.rc_protocol.specs.Devices.{powered, armed, opened_once};
+ghost use Rattle.rc_protocol.specs.World.{coord_does, shard_does, client_does, with_new_client, is_up as is_up_lem, stops, restarts, Idle};
+ghost use Rattle.rc_ids.specs.declared.names.NodeId.TheVariants.{Coord as CoordName, Shard as ShardName};
 ghost use Rattle.std.specs.List.{flat_map};
 ghost use Rattle.std.specs.Prelude.{◌≤◌};
 ghost use Rattle.rc_ids.specs.Tables.{up_to};
@@ -20,14 +20,14 @@ ghost use Rattle.rc_world.specs.Networks.{new_network};
 ghost use Rattle.rc_world.specs.Starts.{coord_sites, shard_sites};
 ghost use Rattle.rc_world.specs.Sessions.{session_of};
 ghost use Rattle.rc_world.specs.Hosts.{coord_act, shard_act, coord_nodes, shard_nodes};
-ghost use Rattle.rc_world.specs.Acted.{housed, does_by, deed_work, disk_at, with_disk, client_act, Acted, Refuses, May, MayAct, is_full_for};
+ghost use Rattle.rc_world.specs.Acted.{housed, does_by, deed_work, stop_work, arm_work, start_work, client_act, Acted, Refuses, May, MayAct, is_full_for};
 
 use crate::clients::client_acts;
 use crate::coord_host::CoordHost;
-use crate::coords::coord_acts;
+use crate::coords::{coord_acts, coord_arms, coord_starts, coord_stops};
 use crate::fault::ActFault;
 use crate::shard_host::ShardHost;
-use crate::shards::shard_acts;
+use crate::shards::{shard_acts, shard_arms, shard_opens, shard_starts, shard_stops};
 use crate::starts::{new_coords, new_shards};
 use rc_body::Body;
 use rc_client::{Client, Phase};
@@ -260,6 +260,116 @@ impl Parties {
             txs.push(*tx)?;
         }
         Ok(txs)
+    }
+}
+
+/// The place of a shard server.
+fn place_of(cluster: &Cluster, dc: DcId, shard: ShardId) -> usize
+    ensures { result ≡ shard_place cluster.now dc shard }
+{
+    (dc.0 as usize - 1) * cluster.shards() as usize + (shard.0 as usize - 1)
+}
+
+impl Parties {
+    /// A coordinator that is up stops.
+    fn stop_coord(&mut self, dc: DcId, lines: &mut Lines) -> Result<(), NoMemory>
+        requires { is_up_lem self.old.parties (CoordName dc) ≡ true }
+        ensures { OnOk result (Acted (stops self.old.parties (CoordName dc)) (stop_work self.old (CoordName dc)) self.old self.new [] lines.old lines.new) }
+    {
+        coord_stops(&mut self.coords, dc, lines)
+    }
+
+    /// A shard server that is up stops.
+    fn stop_shard(
+        &mut self,
+        dc: DcId,
+        shard: ShardId,
+        lines: &mut Lines,
+    ) -> Result<(), NoMemory>
+        requires { is_up_lem self.old.parties (ShardName dc shard) ≡ true }
+        ensures { OnOk result (Acted (stops self.old.parties (ShardName dc shard)) (stop_work self.old (ShardName dc shard)) self.old self.new [] lines.old lines.new) }
+    {
+        let place = place_of(&self.cluster, dc, shard);
+        shard_stops(&mut self.shards, place, dc, shard, lines)
+    }
+
+    /// A node that is up stops.
+    pub(crate) fn stop(&mut self, node: &NodeId, lines: &mut Lines) -> Result<(), NoMemory>
+        requires { is_up_lem self.old.parties node.now ≡ true }
+        ensures { OnOk result (Acted (stops self.old.parties node.now) (stop_work self.old node.now) self.old self.new [] lines.old lines.new) }
+    {
+        match node {
+            NodeId::Coord(dc) => self.stop_coord(*dc, lines),
+            NodeId::Shard(dc, shard) => self.stop_shard(*dc, *shard, lines),
+        }
+    }
+}
+
+impl Parties {
+    /// The power of the disk of a coordinator that is up is to be cut at this call from now on.
+    fn arm_coord(&mut self, dc: DcId, call: u32, pick: u8)
+        requires { is_up_lem self.old.parties (CoordName dc) ≡ true }
+        ensures { Acted Idle (arm_work self.old (CoordName dc) call pick) self.old self.new [] [] [] }
+    {
+        coord_arms(&mut self.coords, dc, call, pick);
+    }
+
+    /// The power of the disk of a shard server that is up is to be cut at this call from now on.
+    fn arm_shard(&mut self, dc: DcId, shard: ShardId, call: u32, pick: u8)
+        requires { is_up_lem self.old.parties (ShardName dc shard) ≡ true }
+        ensures { Acted Idle (arm_work self.old (ShardName dc shard) call pick) self.old self.new [] [] [] }
+    {
+        let place = place_of(&self.cluster, dc, shard);
+        shard_arms(&mut self.shards, place, call, pick);
+    }
+
+    /// The power of the disk of a node that is up is to be cut at this call from now on.
+    pub(crate) fn arm(&mut self, node: &NodeId, call: u32, pick: u8)
+        requires { is_up_lem self.old.parties node.now ≡ true }
+        ensures { Acted Idle (arm_work self.old node.now call pick) self.old self.new [] [] [] }
+    {
+        match node {
+            NodeId::Coord(dc) => self.arm_coord(*dc, call, pick),
+            NodeId::Shard(dc, shard) => self.arm_shard(*dc, *shard, call, pick),
+        }
+    }
+}
+
+impl Parties {
+    /// A coordinator starts from its log, and begins to catch up. Outside the world nobody does.
+    fn restart_coord(&mut self, alloc: Global, dc: DcId) -> Result<Outbox, NoMemory>
+        ensures { IfOk result (λ out. Acted (restarts self.old.parties (CoordName dc)) (start_work self.old (CoordName dc)) self.old self.new out [] []) }
+    {
+        if dc.0 as usize - 1 >= self.coords.len() {
+            return Ok(Outbox::new(alloc));
+        }
+        coord_starts(&mut self.coords, alloc, &self.cluster, dc)
+    }
+
+    /// A shard server starts from its log, and begins to catch up. Outside the world nobody does; where its place is that
+    /// of another shard server, the log of that one is opened.
+    fn restart_shard(&mut self, alloc: Global, dc: DcId, shard: ShardId) -> Result<Outbox, NoMemory>
+        ensures { IfOk result (λ out. Acted (restarts self.old.parties (ShardName dc shard)) (start_work self.old (ShardName dc shard)) self.old self.new out [] []) }
+    {
+        let place = place_of(&self.cluster, dc, shard);
+        if place >= self.shards.len() {
+            return Ok(Outbox::new(alloc));
+        }
+        if shard.0 > self.cluster.shards() {
+            shard_opens(&mut self.shards, place)?;
+            return Ok(Outbox::new(alloc));
+        }
+        shard_starts(&mut self.shards, place, alloc, dc)
+    }
+
+    /// A node starts from its log, and begins to catch up.
+    pub(crate) fn restart(&mut self, alloc: Global, node: &NodeId) -> Result<Outbox, NoMemory>
+        ensures { IfOk result (λ out. Acted (restarts self.old.parties node.now) (start_work self.old node.now) self.old self.new out [] []) }
+    {
+        match node {
+            NodeId::Coord(dc) => self.restart_coord(alloc, *dc),
+            NodeId::Shard(dc, shard) => self.restart_shard(alloc, *dc, *shard),
+        }
     }
 }
 

@@ -186,6 +186,17 @@ impl ShardHost {
         self.node.catch(dc, out)
     }
 
+    /// The log is opened, if it is not; the shard server is as it was.
+    pub(crate) fn open_once(&mut self) -> Result<(), NoMemory>
+        ensures node { self.new.node ≡ self.old.node }
+        ensures device { OnOk result (opened_once self.old.device ≡ Some self.new.device) }
+    {
+        if self.node.is_up() {
+            return Ok(());
+        }
+        self.disk.open_once()
+    }
+
     /// Adds the lines that show the shard server.
     pub(crate) fn show(
         &self,

@@ -1,7 +1,9 @@
 // Shard servers at their places.
-ghost use Rattle.std.specs.Prelude.{◌≡◌, ◌<◌, ◌++◌, true, false, OnOk, IfOk, length, slice_get};
+ghost use Rattle.std.specs.Prelude.{◌≡◌, ◌<◌, ◌++◌, [], ◌∷◌, true, false, Some, OnOk, IfOk, length, slice_get, slice_set};
 ghost use Rattle.rc_world.specs.Hosts.{ShardSite, shard_act};
-ghost use Rattle.rc_world.specs.Acted.{ShardDone, ShardDid, ShardIdle};
+ghost use Rattle.rc_world.specs.Acted.{ShardDone, ShardDid, ShardIdle, ShardStarts, ShardOpens, stopped_shard, armed_shard};
+ghost use Rattle.rc_ids.specs.declared.names.NodeId.TheVariants.{Shard as ShardName};
+ghost use Rattle.rc_report.specs.declared.line.Line.TheVariants.{Stopped as StoppedLine};
 
 use crate::disk::Course;
 use crate::shard_host::ShardHost;
@@ -66,4 +68,52 @@ pub(crate) fn shard_acts(
         event,
         lines,
     )
+}
+
+/// The shard server at a place stops.
+pub(crate) fn shard_stops(
+    shards: &mut Vec<ShardHost>,
+    place: usize,
+    dc: DcId,
+    shard: ShardId,
+    lines: &mut Lines,
+) -> Result<(), NoMemory>
+    requires { place < length shards.old.items }
+    ensures stopped { (h : ShardSite) → slice_get shards.old.items place ≡ Some h → shards.new.items ≡ slice_set shards.old.items place (stopped_shard h) }
+    ensures prints { OnOk result (lines.new ≡ lines.old ++ StoppedLine (ShardName dc shard) ∷ []) }
+{
+    shards[place].stop();
+    lines.push(Line::Stopped(NodeId::Shard(dc, shard)))
+}
+
+/// The power of the disk of the shard server at a place is to be cut at this call from now on.
+pub(crate) fn shard_arms(shards: &mut Vec<ShardHost>, place: usize, call: u32, pick: u8)
+    requires inside { place < length shards.old.items }
+    requires up { (h : ShardSite) → slice_get shards.old.items place ≡ Some h → h.node.up ≡ true }
+    ensures { (h : ShardSite) → slice_get shards.old.items place ≡ Some h → shards.new.items ≡ slice_set shards.old.items place (armed_shard call pick h) }
+{
+    shards[place].arm(call, pick);
+}
+
+/// The shard server at a place starts from its log, and begins to catch up.
+pub(crate) fn shard_starts(
+    shards: &mut Vec<ShardHost>,
+    place: usize,
+    alloc: Global,
+    dc: DcId,
+) -> Result<Outbox, NoMemory>
+    requires { place < length shards.old.items }
+    ensures { IfOk result (λ out. (h : ShardSite) → slice_get shards.old.items place ≡ Some h → ShardStarts dc place h shards.old.items shards.new.items out) }
+{
+    let mut out = Outbox::new(alloc);
+    shards[place].restart(dc, &mut out)?;
+    Ok(out)
+}
+
+/// The log of the shard server at a place is opened, if it is not.
+pub(crate) fn shard_opens(shards: &mut Vec<ShardHost>, place: usize) -> Result<(), NoMemory>
+    requires { place < length shards.old.items }
+    ensures { OnOk result ((h : ShardSite) → slice_get shards.old.items place ≡ Some h → ShardOpens place h shards.old.items shards.new.items) }
+{
+    shards[place].open_once()
 }

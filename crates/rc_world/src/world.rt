@@ -7,6 +7,7 @@ ghost use Rattle.rc_report.specs.Lines.{line_text};
 ghost use Rattle.rc_protocol.specs.Refusals.{wrong, wants_up};
 ghost use Rattle.rc_protocol.specs.Session.{text_bytes, most_text_bytes, happens};
 ghost use Rattle.rc_world.specs.Networks.{passed, posted, too_much};
+ghost use Rattle.rc_world.specs.declared.fault.ActFault.TheVariants.{NoMemory as OutOfMemory};
 ghost use Rattle.rc_world.specs.Sessions.{session_of, actor_if_any, acts as acts_lem, EventActed, ActRefused, Stepped, late_limit, Halts, Happened, Stay, event_lines, fault_of_limit, SendRefused, Overprints, early_limit as early_limit_lem};
 
 use crate::SessionFault;
@@ -139,6 +140,57 @@ fn acts(event: &Event) -> bool
     }
 }
 
+/// A node that is up stops.
+fn stop(
+    alloc: Global,
+    parties: &mut Parties,
+    network: &Network,
+    node: &NodeId,
+    own: &mut Lines,
+) -> Result<Outbox, ActFault>
+    requires named { wrong (session_of parties.old network.now 0 0).world (Event.Crash node.now) ≡ None }
+    requires own { own.old ≡ [] }
+    ensures done { IfOk result (λ out. EventActed parties.old parties.new network.now (Event.Crash node.now) out own.new) }
+    ensures refused { IfErr result (λ e. e ≡ OutOfMemory) }
+{
+    parties.stop(node, own)?;
+    Ok(Outbox::new(alloc))
+}
+
+/// The power of the disk of a node that is up is to be cut at this call from now on.
+fn arm(
+    alloc: Global,
+    parties: &mut Parties,
+    network: &Network,
+    node: &NodeId,
+    call: u32,
+    pick: u8,
+    own: &Lines,
+) -> Outbox
+    requires named { wrong (session_of parties.old network.now 0 0).world (Event.CrashAt node.now call pick) ≡ None }
+    requires own { own.now ≡ [] }
+    ensures { EventActed parties.old parties.new network.now (Event.CrashAt node.now call pick) result own.now }
+{
+    parties.arm(node, call, pick);
+    Outbox::new(alloc)
+}
+
+/// A node that is not up starts from its log.
+fn restart(
+    alloc: Global,
+    parties: &mut Parties,
+    network: &Network,
+    node: &NodeId,
+    own: &mut Lines,
+) -> Result<Outbox, ActFault>
+    requires { own.old ≡ [] }
+    ensures done { IfOk result (λ out. EventActed parties.old parties.new network.now (Event.Restart node.now) out own.new) }
+    ensures refused { IfErr result (λ e. e ≡ OutOfMemory) }
+{
+    own.push(Line::Up(same_node(node)))?;
+    Ok(parties.restart(alloc, node)?)
+}
+
 /// The party that acts in the event does its deed.
 fn act(
     alloc: Global,
@@ -162,7 +214,12 @@ fn act(
             parties.begin(alloc, *tx)?;
             Ok(Outbox::new(alloc))
         }
-        _ => Err(ActFault::NoMemory),
+        Event::Crash(node) => stop(alloc, parties, network, node, own),
+        Event::CrashAt { node, k, pick } => {
+            Ok(arm(alloc, parties, network, node, *k, *pick, own))
+        }
+        Event::Restart(node) => restart(alloc, parties, network, node, own),
+        _ => unreachable!(),
     }
 }
 
