@@ -1,0 +1,4 @@
+-- Lemmas that several proofs share.
+pub mod CountFacts
+pub mod ChoiceFacts
+pub mod RowFacts

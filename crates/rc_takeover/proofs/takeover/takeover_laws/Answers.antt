@@ -1,0 +1,8 @@
+use Rattle.rc_takeover.proofs.RowFacts.{is_take_over, told}
+use Rattle.rc_takeover.proofs.takeover.takeover_laws.Goals as goal
+
+pub returns : goal.returns
+returns c = record {
+  rows = is_take_over;
+  told = told;
+}
