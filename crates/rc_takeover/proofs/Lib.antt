@@ -2,3 +2,4 @@
 pub mod CountFacts
 pub mod ChoiceFacts
 pub mod RowFacts
+pub mod ShownFacts
