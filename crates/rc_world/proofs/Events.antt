@@ -1,24 +1,19 @@
 -- Events on parties and network.
-use Rattle.std.proofs.Common.{◌≡◌, ℕ, Bool, true, false, List, [], ◌∷◌, ◌++◌, Option, None, Some, refl, sym, ◌∙◌, ap, subst}
-use Rattle.std.specs.Prelude.{if◌then◌else◌}
+use Rattle.std.proofs.Common.{◌≡◌, ℕ, true, List, [], ◌++◌, Option, None, Some, refl, sym, ◌∙◌, ap, subst}
 use Rattle.rc_ids.specs.Tables.{maybe}
-use Rattle.rc_ids.specs.declared.names.NodeId.{NodeId}
 use Rattle.rc_ids.specs.declared.names.NodeId.TheVariants.{Coord, Shard as ShardServer}
 use Rattle.rc_ids.specs.declared.names.Party.{Party}
 use Rattle.rc_ids.specs.declared.names.Party.TheVariants.{Node, Client as ClientOf}
 use Rattle.rc_msg.specs.declared.msg.Envelope.{Envelope}
 use Rattle.rc_report.specs.declared.line.Line.{Line}
-use Rattle.rc_report.specs.declared.line.Line.TheVariants.{Up as UpLine}
-use Rattle.rc_report.specs.declared.fault.Wrong.{Wrong}
-use Rattle.rc_report.specs.declared.fault.Wrong.TheVariants.{Down}
 use Rattle.rc_protocol.specs.declared.event.Event.{Event}
 use Rattle.rc_protocol.specs.declared.event.Event.TheVariants.{Begin, Read, Write, Commit, Cancel, Retry, Vanish, Take, Catch, Deliver, Lose, Crash, CrashAt, Restart}
 use Rattle.rc_protocol.specs.Messages.{Sends}
-use Rattle.rc_protocol.specs.World.{Parties, Deed, Idle, deed, along, moved, lines_of, received, message, joined, starts, sends_of, is_up, stops, restarts}
-use Rattle.rc_protocol.specs.Refusals.{worn_out, wants_up}
+use Rattle.rc_protocol.specs.World.{Parties, Deed, Idle, deed, along, moved, lines_of, received, message, joined, starts, sends_of}
+use Rattle.rc_protocol.specs.Refusals.{worn_out}
 use Rattle.rc_protocol.specs.Session.{Session, DiskWork, disk_work}
 use Rattle.rc_world.specs.Networks.{Network}
-use Rattle.rc_world.specs.Acted.{Housed, deed_work, stop_work, arm_work, start_work, does_by, disks_after, Acted}
+use Rattle.rc_world.specs.Acted.{Housed, deed_work, does_by, disks_after, Acted}
 use Rattle.rc_world.specs.Sessions.{session_of, acts, actor_if_any, EventActed}
 
 -- WHO ACTS
@@ -77,25 +72,3 @@ acting_acted h h' n e from out own is who acted =
       prints = a.prints ∙ ap (λ (k : DiskWork). lines_of (along k.course d)) w ∙ ap (λ (ls : List Line). ls ++ lines_of (along (disk_work z e).course d)) (sym (acting_starts e is));
       whole = ap (λ (k : DiskWork). worn_out (along k.course d)) (sym w) ∙ a.whole;
     }
-
--- STOPS, ARMED CUTS AND STARTS
-pub up_named : (p : Parties) (node : NodeId) → wants_up p node ≡ None → is_up p node ≡ true
-up_named p node named = by_test (is_up p node) refl
-  where
-    by_test : (b : Bool) → is_up p node ≡ b → is_up p node ≡ true
-    by_test true is = is
-    by_test false is =
-        let down : Some (Down node) ≡ None = sym (ap (λ (b : Bool). let o : Option Wrong = if b then None else Some (Down node) in o) is) ∙ named in
-        cc
-
-pub stop_acted : (h h' : Housed) (n : Network) (node : NodeId) (own : List Line) → Acted (stops h.parties node) (stop_work h node) h h' [] [] own → EventActed h h' n (Crash node) [] own
-stop_acted h h' n (Coord d) own a = record { parties = a.parties; disks = a.disks; sends = a.sends; prints = a.prints; whole = a.whole }
-stop_acted h h' n (ShardServer d s) own a = record { parties = a.parties; disks = a.disks; sends = a.sends; prints = a.prints; whole = a.whole }
-
-pub arm_acted : (h h' : Housed) (n : Network) (node : NodeId) (k pick : ℕ) → Acted Idle (arm_work h node k pick) h h' [] [] [] → EventActed h h' n (CrashAt node k pick) [] []
-arm_acted h h' n (Coord d) k pick a = record { parties = a.parties; disks = a.disks; sends = a.sends; prints = a.prints; whole = a.whole }
-arm_acted h h' n (ShardServer d s) k pick a = record { parties = a.parties; disks = a.disks; sends = a.sends; prints = a.prints; whole = a.whole }
-
-pub restart_acted : (h h' : Housed) (n : Network) (node : NodeId) (out : Sends) → Acted (restarts h.parties node) (start_work h node) h h' out [] [] → EventActed h h' n (Restart node) out (UpLine node ∷ [])
-restart_acted h h' n (Coord d) out a = record { parties = a.parties; disks = a.disks; sends = a.sends; prints = ap (λ (ls : List Line). UpLine (Coord d) ∷ ls) a.prints; whole = a.whole }
-restart_acted h h' n (ShardServer d s) out a = record { parties = a.parties; disks = a.disks; sends = a.sends; prints = ap (λ (ls : List Line). UpLine (ShardServer d s) ∷ ls) a.prints; whole = a.whole }

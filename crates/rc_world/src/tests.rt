@@ -1,0 +1,73 @@
+// A world of three datacentres with one shard each, through a few events and commands: the text of what each prints.
+use crate::Session;
+use rc_ids::{Cluster, DcId, Key, NodeId, ShardId, Text, TxId, Val};
+use rc_protocol::Event;
+use rc_report::{Lines, render};
+use rc_script::Command;
+use std::alloc::Global;
+use std::test::Fail;
+
+fn new_session(alloc: Global) -> Result<Session, Fail> {
+    let cluster = Cluster::new(3, 1, Vec::new(alloc))?;
+    Ok(Session::new(alloc, cluster)?)
+}
+
+fn text_of(alloc: Global, lines: &Lines) -> Result<Text, Fail> {
+    let mut text = Text::new(alloc);
+    for line in lines.as_slice() {
+        render(line, &mut text)?;
+    }
+    Ok(text)
+}
+
+/// The text of what an event prints.
+fn happens(alloc: Global, session: &mut Session, event: &Event) -> Result<Text, Fail> {
+    let mut lines = Lines::new(alloc);
+    session.happen(alloc, event, &mut lines)?;
+    text_of(alloc, &lines)
+}
+
+/// The text of what a command prints.
+fn performs(alloc: Global, session: &mut Session, command: &Command) -> Result<Text, Fail> {
+    let mut lines = Lines::new(alloc);
+    session.perform(alloc, command, &mut lines)?;
+    text_of(alloc, &lines)
+}
+
+fn says(text: &Text, wanted: &[u8]) -> bool {
+    text.as_bytes() == wanted
+}
+
+/// A commit, and the stops and starts while its messages are under way.
+fn event(alloc: Global, step: usize) -> Result<Event, Fail> {
+    let coordinator = NodeId::Coord(DcId(2));
+    let server = NodeId::Shard(DcId(3), ShardId(1));
+    Ok(match step {
+        0 => Event::Begin(TxId(1)),
+        1 => Event::Write(TxId(1), Key::new(b"a")?, Val::new(alloc, b"x")?),
+        2 => Event::Commit(TxId(1)),
+        3 => Event::CrashAt {
+            node: server,
+            k: 1,
+            pick: 0,
+        },
+        4 => Event::Crash(coordinator),
+        _ => Event::Restart(coordinator),
+    })
+}
+
+#[test]
+fn commits_over_stops(rt: HostRuntime) -> Result<(), Fail> {
+    let alloc = rt.alloc();
+    let mut session = new_session(alloc)?;
+    let wanted: [&[u8]; 6] = [b"", b"", b"", b"", b"d2 stopped\n", b"d2 up\n"];
+    for (step, wanted) in wanted.iter().enumerate() {
+        let text = happens(alloc, &mut session, &event(alloc, step)?)?;
+        assert!(rt; says(&text, wanted), "at {step}");
+    }
+    let text = performs(alloc, &mut session, &Command::Step(1000))?;
+    assert!(rt; says(&text, b"d3.s1 stopped\nt1 committed\n"));
+    let text = performs(alloc, &mut session, &Command::Order)?;
+    assert!(rt; says(&text, b"order t1\n"));
+    Ok(())
+}
