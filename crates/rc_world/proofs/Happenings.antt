@@ -1,7 +1,7 @@
 -- What an event leaves of a session, from what parties, disks and network did.
-use Rattle.std.proofs.Common.{◌≡◌, ℕ, zero, suc, ◌+◌, Bool, true, false, List, [], ◌∷◌, ◌++◌, length, Option, None, Some, refl, sym, ◌∙◌, ap, subst, arith, add-zero}
+use Rattle.std.proofs.Common.{◌≡◌, ℕ, suc, ◌+◌, Bool, true, false, List, [], ◌∷◌, ◌++◌, length, Option, None, Some, refl, sym, ◌∙◌, ap, subst, add-zero}
 use Rattle.std.proofs.lemmas.List.{append-nil}
-use Rattle.std.specs.Prelude.{Result, Ok, Err, map, nat_lt, nat_le, if◌then◌else◌, ◌&&◌}
+use Rattle.std.specs.Prelude.{Result, Ok, Err, nat_lt, nat_le, if◌then◌else◌, ◌&&◌}
 use Rattle.rc_ids.specs.Tables.{maybe}
 use Rattle.rc_ids.specs.declared.names.NodeId.{NodeId}
 use Rattle.rc_ids.specs.declared.names.NodeId.TheVariants.{Coord, Shard as ShardServer}
@@ -9,18 +9,18 @@ use Rattle.rc_ids.specs.declared.names.Party.{Party}
 use Rattle.rc_msg.specs.declared.msg.Envelope.{Envelope}
 use Rattle.rc_report.specs.declared.line.Line.{Line}
 use Rattle.rc_report.specs.declared.fault.Which.{Which}
-use Rattle.rc_report.specs.declared.fault.Which.TheVariants.{TextBytes, Transactions, Events, Messages, MessageBytes, Version, Ballots}
+use Rattle.rc_report.specs.declared.fault.Which.TheVariants.{TextBytes, Transactions, Events}
 use Rattle.rc_report.specs.declared.fault.Wrong.{Wrong}
 use Rattle.rc_report.specs.declared.fault.Wrong.TheVariants.{NotSent}
 use Rattle.rc_protocol.specs.declared.event.Event.{Event}
 use Rattle.rc_protocol.specs.declared.event.Event.TheVariants.{Begin, Read, Write, Commit, Cancel, Retry, Vanish, Take, Catch, Deliver, Lose, Crash, CrashAt, Restart}
 use Rattle.rc_protocol.specs.Messages.{Sends, client_of}
-use Rattle.rc_protocol.specs.World.{World, Parties, Deed, Course, Goes, actor, message, envelopes, bytes_of, numbers_after, deed, along, course_deed, moved, joined, printed, sends_of, step, still_pending, delivered_after}
-use Rattle.rc_protocol.specs.Refusals.{wrong, limit, worn_out, too_much_sent, begins, most_transactions, most_events, most_messages, most_message_bytes, is_pending}
+use Rattle.rc_protocol.specs.World.{Parties, Deed, Course, actor, message, envelopes, bytes_of, numbers_after, deed, course_deed, printed, sends_of, step, still_pending, delivered_after}
+use Rattle.rc_protocol.specs.Refusals.{wrong, limit, worn_out, too_much_sent, begins, most_transactions, most_events}
 use Rattle.rc_protocol.specs.Devices.{Device}
 use Rattle.rc_protocol.specs.Session.{Session, Halt, Misnamed, Limited, FarmFails, DiskWork, disk_work, after_work, may_do, does, prints, happens, with_world, with_text, text_bytes, most_text_bytes}
 use Rattle.rc_world.specs.Networks.{Network, posted, passed, too_much, numbers_of}
-use Rattle.rc_world.specs.Acted.{Housed, disks_after, Refuses}
+use Rattle.rc_world.specs.Acted.{Housed, disks_after}
 use Rattle.rc_world.specs.Sessions.{session_of, actor_if_any, EventActed, Stepped, late_limit, network_of, early_limit, Halts, SendRefused, Overprints, ActRefused, fault_of_act, fault_of_limit}
 use Rattle.rc_world.specs.declared.fault.ActFault.{ActFault}
 use Rattle.rc_world.specs.declared.fault.ActFault.TheVariants.{NoMemory as ActNoMemory, VersionSpent, BallotsSpent}

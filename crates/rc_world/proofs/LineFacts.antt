@@ -1,5 +1,5 @@
 -- What lines do, put behind the lines so far.
-use Rattle.std.proofs.Common.{◌≡◌, ℕ, zero, suc, ◌+◌, ◌<◌, ◌≤◌, List, [], ◌∷◌, ◌++◌, length, take, drop, get_or, Option, None, Some, refl, sym, ◌∙◌, ap, subst, arith, append_assoc, add-one, drop-cons}
+use Rattle.std.proofs.Common.{◌≡◌, ℕ, zero, suc, ◌+◌, List, [], ◌∷◌, ◌++◌, length, take, drop, Option, None, Some, refl, sym, ◌∙◌, ap, subst, append_assoc}
 use Rattle.std.proofs.lemmas.List.{append-nil}
 use Rattle.std.specs.Prelude.{Ok, Err}
 use Rattle.rc_ids.specs.Tables.{maybe}
@@ -10,7 +10,7 @@ use Rattle.rc_protocol.specs.declared.event.Event.{Event}
 use Rattle.rc_protocol.specs.declared.event.Event.TheVariants.{Deliver}
 use Rattle.rc_protocol.specs.World.{World}
 use Rattle.rc_protocol.specs.Session.{Session, Went, Halt, Limited, Misnamed, happens, prints}
-use Rattle.rc_protocol.specs.Script.{LineDone, line_done, then_line, goes_on, by_event, by_lines, idle, oldest, steps, settles, each}
+use Rattle.rc_protocol.specs.Script.{LineDone, line_done, then_line, goes_on, by_event, by_lines, idle, oldest, steps, settles}
 use Rattle.rc_world.specs.Networks as networks
 use Rattle.rc_world.specs.declared.fault.SessionFault.{SessionFault}
 use Rattle.rc_world.specs.declared.fault.SessionFault.TheVariants.{NoMemory, Naming, Limit}

@@ -1,7 +1,7 @@
 -- New sessions: every node begins with a created log.
-use Rattle.std.proofs.Common.{◌≡◌, ℕ, zero, suc, ◌+◌, ◌≤◌, List, [], ◌∷◌, ◌++◌, length, Option, None, Some, ◌⊎◌, inl, inr, refl, sym, ◌∙◌, ap, subst, arith, add-one, append_assoc, length-append}
+use Rattle.std.proofs.Common.{◌≡◌, ℕ, zero, suc, ◌+◌, ◌≤◌, List, [], ◌∷◌, ◌++◌, length, ◌⊎◌, inl, inr, refl, sym, ◌∙◌, ap, subst, arith, add-one, append_assoc, length-append}
 use Rattle.std.proofs.lemmas.List.{append-nil}
-use Rattle.std.specs.Prelude.{Result, Ok, Err, map}
+use Rattle.std.specs.Prelude.{Result, Ok, map}
 use Rattle.std.specs.List.{flat_map}
 use Rattle.rc_ids.specs.Tables.{up_to}
 use Rattle.rc_ids.specs.Cluster.{Layout}
@@ -11,13 +11,13 @@ use Rattle.rc_body.specs.declared.entry.Entry.{Entry}
 use Rattle.rc_protocol.specs.Nodes.{CoordNode, ShardNode, coord_started, shard_started}
 use Rattle.rc_protocol.specs.Devices.{Device}
 use Rattle.rc_protocol.specs.Session.{Session, Halt}
-use Rattle.rc_protocol.specs.Stored.{Begun, in_memory, begins_all, and_then, with_rest, nodes_of, nodes_of_dc, if_coord, if_shard, with_logs, all_choices, coords_of, shards_of, start_of, session_from, new_session}
-use Rattle.rc_protocol.specs.World.{Start, started_world}
+use Rattle.rc_protocol.specs.Stored.{Begun, in_memory, begins_all, and_then, with_rest, nodes_of, nodes_of_dc, if_coord, if_shard, with_logs, all_choices, coords_of, shards_of, session_from, new_session}
+use Rattle.rc_protocol.specs.World.{started_world}
 use Rattle.rc_world.specs.Hosts.{CoordSite, ShardSite, coord_nodes, coord_devices, shard_nodes, shard_devices}
 use Rattle.rc_world.specs.Networks.{new_network}
 use Rattle.rc_world.specs.Acted.{housed}
 use Rattle.rc_world.specs.Sessions.{session_of}
-use Rattle.rc_world.specs.Starts.{headed, begun, Begins, coord_site, shard_site, coord_sites, shard_sites_of, shard_sites}
+use Rattle.rc_world.specs.Starts.{begun, Begins, coord_site, shard_site, coord_sites, shard_sites}
 
 -- NUMBERS FROM 1 ON
 le_split : (d n : ℕ) → d ≤ suc n → (d ≤ n) ⊎ (d ≡ suc n)

@@ -14,8 +14,8 @@ use Rattle.rc_report.specs.declared.line.Line.TheVariants.{Stopped}
 use Rattle.rc_protocol.specs.Messages.{Sends}
 use Rattle.rc_protocol.specs.Client.{Client}
 use Rattle.rc_protocol.specs.Shard.{do_catch, new_volatile}
-use Rattle.rc_protocol.specs.Nodes.{ShardNode, shard_place, shard_started, shard_stopped}
-use Rattle.rc_protocol.specs.World.{Parties, Deed, Idle, ByShard, ShardStops, is_up, shard_at, stops, restarts}
+use Rattle.rc_protocol.specs.Nodes.{ShardNode, shard_place, shard_started}
+use Rattle.rc_protocol.specs.World.{Parties, Deed, Idle, ByShard, ShardStops, is_up, stops, restarts}
 use Rattle.rc_protocol.specs.Devices.{Device, powered, armed, opened_once}
 use Rattle.rc_protocol.specs.Session.{no_device}
 use Rattle.rc_world.specs.Hosts.{CoordSite, ShardSite, shard_nodes, shard_devices}

@@ -1,5 +1,5 @@
 -- Stops, armed cuts and starts of coordinators, from what happened at the one that is named.
-use Rattle.std.proofs.Common.{◌≡◌, ℕ, ◌<◌, ◌≤◌, Bool, true, false, List, [], ◌∷◌, ◌++◌, length, Option, None, Some, refl, sym, ◌∙◌, ap, subst, arith}
+use Rattle.std.proofs.Common.{◌≡◌, ℕ, ◌<◌, ◌≤◌, true, false, List, [], ◌∷◌, ◌++◌, length, Option, None, Some, refl, sym, ◌∙◌, ap, subst}
 use Rattle.std.proofs.lemmas.List.{append-nil, map-set}
 use Rattle.std.proofs.lemmas.Option.{slice_get_past, slice_get_within, slice_get-map}
 use Rattle.std.specs.Prelude.{slice_get, slice_set}
@@ -14,13 +14,13 @@ use Rattle.rc_report.specs.declared.line.Line.TheVariants.{Stopped}
 use Rattle.rc_protocol.specs.Messages.{Sends}
 use Rattle.rc_protocol.specs.Client.{Client}
 use Rattle.rc_protocol.specs.Coordinator.{do_catch, new_volatile}
-use Rattle.rc_protocol.specs.Nodes.{CoordNode, coord_place, coord_started, coord_stopped}
-use Rattle.rc_protocol.specs.World.{Parties, Deed, Idle, ByCoord, CoordStops, Goes, coord_at, is_up, stops, restarts, moved, with_coord}
+use Rattle.rc_protocol.specs.Nodes.{CoordNode, coord_place, coord_started}
+use Rattle.rc_protocol.specs.World.{Parties, Deed, Idle, ByCoord, CoordStops, is_up, stops, restarts}
 use Rattle.rc_protocol.specs.Devices.{Device, powered, armed, opened_once}
 use Rattle.rc_protocol.specs.Session.{no_device, work_on}
 use Rattle.rc_world.specs.Hosts.{CoordSite, ShardSite, coord_nodes, coord_devices}
 use Rattle.rc_world.specs.Acted.{Housed, housed, disk_at, with_disk, disks_after, Acted, stop_work, arm_work, start_work, stopped_coord, armed_coord, CoordStarts}
-use Rattle.rc_world.proofs.Deeds.{within_some, set_same, set_past, idle}
+use Rattle.rc_world.proofs.Deeds.{within_some, set_same, set_past}
 
 -- a disk with which work leaves this one
 pub worked : (h : Housed) (node : NodeId) (o : Option Device) (y : Device) → o ≡ Some y → disks_after h (work_on node o) ≡ Some (with_disk h node y)

@@ -1,5 +1,5 @@
 -- Nodes whose logs were created on empty disks.
-use Rattle.std.specs.Prelude.{◌≡◌, ℕ, ◌≤◌, true, List, [], map, Result, Ok}
+use Rattle.std.specs.Prelude.{◌≡◌, ℕ, true, List, [], map, Ok}
 use Rattle.std.specs.List.{flat_map}
 use Rattle.rc_ids.specs.Tables.{up_to}
 use Rattle.rc_ids.specs.Cluster.{Layout}
@@ -9,7 +9,6 @@ use Rattle.rc_record.specs.Heads.{new_head}
 use Rattle.rc_record.specs.declared.record.Record.TheVariants.{Head}
 use Rattle.rc_protocol.specs.Nodes.{coord_started, shard_started}
 use Rattle.rc_protocol.specs.Devices.{Device, new_device, created, appended, record_length}
-use Rattle.rc_protocol.specs.Session.{Halt}
 use Rattle.rc_protocol.specs.Stored.{Begun, in_memory, begins_node}
 use Rattle.rc_world.specs.Hosts.{CoordSite, ShardSite}
 

@@ -280,12 +280,7 @@ impl Parties {
     }
 
     /// A shard server that is up stops.
-    fn stop_shard(
-        &mut self,
-        dc: DcId,
-        shard: ShardId,
-        lines: &mut Lines,
-    ) -> Result<(), NoMemory>
+    fn stop_shard(&mut self, dc: DcId, shard: ShardId, lines: &mut Lines) -> Result<(), NoMemory>
         requires { is_up_lem self.old.parties (ShardName dc shard) ≡ true }
         ensures { OnOk result (Acted (stops self.old.parties (ShardName dc shard)) (stop_work self.old (ShardName dc shard)) self.old self.new [] lines.old lines.new) }
     {

@@ -1,4 +1,4 @@
-use Rattle.std.proofs.Common.{◌≡◌, ◌++◌, ◌-◌, ◌≤◌}
+use Rattle.std.proofs.Common.{◌≡◌, ◌++◌, ◌-◌}
 use Rattle.std.specs.List.{flat_map}
 use Rattle.rc_ids.specs.Tables.{up_to}
 use Rattle.rc_world.specs.Hosts.{shard_nodes}

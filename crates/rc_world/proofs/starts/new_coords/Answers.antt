@@ -1,4 +1,4 @@
-use Rattle.std.proofs.Common.{◌≡◌, ℕ}
+use Rattle.std.proofs.Common.{ℕ}
 use Rattle.rc_ids.specs.declared.names.NodeId.TheVariants.{Coord}
 use Rattle.rc_world.specs.Starts.{coord_site, Begins}
 use Rattle.rc_world.proofs.NewSessions.{sites_more, one_more}

@@ -1,4 +1,4 @@
-use Rattle.std.proofs.Common.{◌≡◌, ℕ, ◌≤◌, refl}
+use Rattle.std.proofs.Common.{ℕ, ◌≤◌, refl}
 use Rattle.rc_ids.specs.declared.names.NodeId.TheVariants.{Shard}
 use Rattle.rc_world.specs.Starts.{shard_sites_of, Begins}
 use Rattle.rc_world.proofs.NewSessions.{flat_more, one_more}

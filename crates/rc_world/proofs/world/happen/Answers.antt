@@ -1,7 +1,7 @@
-use Rattle.std.proofs.Common.{◌≡◌, None, Some, sym, ◌∙◌}
+use Rattle.std.proofs.Common.{◌≡◌, None}
 use Rattle.std.proofs.lemmas.Result.{IfOk-weaker}
 use Rattle.std.specs.Prelude.{length}
-use Rattle.rc_world.specs.Sessions.{session_of, early_limit}
+use Rattle.rc_world.specs.Sessions.{early_limit}
 use Rattle.rc_world.proofs.Happenings.{happened}
 use Rattle.rc_world.proofs.world.happen.Goals as goal
 

@@ -1,5 +1,5 @@
-use Rattle.std.proofs.Common.{◌≡◌, None, Some, sym, ◌∙◌}
-use Rattle.std.proofs.lemmas.Result.{on_ok_weaker, IfErr-weaker}
+use Rattle.std.proofs.Common.{◌≡◌, None, Some}
+use Rattle.std.proofs.lemmas.Result.{on_ok_weaker}
 use Rattle.rc_world.specs.Sessions.{actor_if_any}
 use Rattle.rc_world.proofs.Happenings.{stepped_by_act, stepped_by_loss}
 use Rattle.rc_world.proofs.world.step.Goals as goal

@@ -1,4 +1,4 @@
-use Rattle.std.proofs.Common.{◌≡◌, ◌<◌, length}
+use Rattle.std.proofs.Common.{◌<◌, length}
 use Rattle.rc_protocol.specs.Nodes.{shard_place}
 use Rattle.rc_world.proofs.ShardStops.{shard_inside, shard_up_at, shard_arm_at}
 use Rattle.rc_world.proofs.parties.Parties.arm_shard.Goals as goal

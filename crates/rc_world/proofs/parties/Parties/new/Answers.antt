@@ -1,6 +1,4 @@
-use Rattle.std.proofs.Common.{◌≡◌, ℕ, length, ap, ◌∙◌}
-use Rattle.rc_world.specs.Starts.{coord_site}
-use Rattle.rc_world.proofs.NewSessions.{begun_session, length_sites}
+use Rattle.rc_world.proofs.NewSessions.{begun_session}
 use Rattle.rc_world.proofs.parties.Parties.new.Goals as goal
 
 pub returns-clause-session : goal.returns-clause-session

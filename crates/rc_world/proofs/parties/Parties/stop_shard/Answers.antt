@@ -1,5 +1,4 @@
-use Rattle.std.proofs.Common.{◌≡◌, ◌<◌, Bool, true, length, ℕ, sym, subst}
-use Rattle.std.specs.Prelude.{slice_get}
+use Rattle.std.proofs.Common.{◌≡◌, ◌<◌, true, length}
 use Rattle.std.proofs.lemmas.Result.{on_ok_weaker}
 use Rattle.rc_ids.specs.Cluster.{is_shard}
 use Rattle.rc_protocol.specs.Nodes.{shard_place}
