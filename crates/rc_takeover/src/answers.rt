@@ -19,7 +19,7 @@ pub enum Would<'a> {
     Ignored,
     /// It would wait for more promises.
     Waiting,
-    /// It would propose abort, which nobody reported or which is all that can have been chosen.
+    /// It would propose abort, since nothing was reported or a quorum reported nothing.
     Abort,
     /// It would propose this decision, which was reported at the highest ballot.
     Reported(&'a Decision),

@@ -1,0 +1,10 @@
+pub mod Numbering
+pub mod Values
+pub mod Transactions
+pub mod Grammatical
+pub mod CommandLine
+pub mod Getters
+pub mod WordForms
+pub mod TomlKeys
+pub mod EachItem
+pub mod Documents

@@ -1,0 +1,8 @@
+use Rattle.std.proofs.Common.{◌≡◌, drop}
+use Rattle.toml.specs.View.{items_view}
+use Rattle.rc_config.specs.Workload.{each, key_at}
+use Rattle.rc_config.proofs.EachItem.{with_front}
+use Rattle.rc_config.proofs.arrays.each_key.Given as goal
+
+abbrev pub invariant-loop-item : goal.invariant-loop-item
+invariant-loop-item l = with_front l.keys (each key_at (items_view (drop l.item-index l.items))) ≡ each key_at (items_view l.items)

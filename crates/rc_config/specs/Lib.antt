@@ -1,0 +1,6 @@
+pub mod Checks
+pub mod Generator
+pub mod Plans
+pub mod Program
+pub mod Words
+pub mod Workload
