@@ -1,0 +1,3 @@
+mod KeptFacts
+mod MarkFacts
+mod ParcelFacts

@@ -1,0 +1,4 @@
+-- What the contracts of this crate cite.
+pub mod Network
+pub mod Parcels
+pub mod Shown
