@@ -8,3 +8,4 @@ pub mod WordForms
 pub mod TomlKeys
 pub mod EachItem
 pub mod Documents
+pub mod SoundFacts

@@ -2,5 +2,6 @@ pub mod Checks
 pub mod Generator
 pub mod Plans
 pub mod Program
+pub mod Sound
 pub mod Words
 pub mod Workload

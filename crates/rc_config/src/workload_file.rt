@@ -1,9 +1,10 @@
 //! Workload files.
-ghost use Rattle.std.specs.Prelude.{◌≡◌, ◌≢◌, ◌≤◌, ◌⊎◌, [], Some, None, Err, IfOk, IfSome, codes, is_none};
+ghost use Rattle.std.specs.Prelude.{◌≡◌, ◌≢◌, ◌≤◌, ◌⊎◌, [], Some, None, Err, IfOk, codes, is_none};
 ghost use Rattle.rc_ids.specs.Cluster.{layout, cluster_fault, equal_weights};
 ghost use Rattle.toml.specs.Data.{get_member};
 ghost use Rattle.toml.specs.Errors.{IsMemory};
 ghost use Rattle.toml.specs.View.{table_view};
+ghost use Rattle.rc_config.specs.Sound.{IsWorkload};
 ghost use Rattle.rc_config.specs.Workload.{needed, optional, number_at as number_at_lem, splits_at as splits_at_lem, weights_at as weights_at_lem, clients_at as clients_at_lem, stops_at as stops_at_lem, workload_of as workload_of_lem, document_of, workload_in, GivesWorkload};
 
 use crate::arrays::{splits_at, weights_at};
@@ -174,7 +175,11 @@ fn document(alloc: Global, bytes: &[u8]) -> Result<Table, WorkloadFault>
 /// The workload that the file is. `NotToml` comes where the bytes are no TOML in UTF-8, `Schema` where they are and the
 /// table is no workload. The limit of bytes is the caller's to test.
 pub fn read_workload(alloc: Global, bytes: &[u8]) -> Result<Workload, WorkloadFault>
-    ensures { GivesWorkload (workload_in (document_of bytes.now)) result }
+    // The workload or the fault that the definition gives, unless memory runs out.
+    ensures exact { GivesWorkload (workload_in (document_of bytes.now)) result }
+
+    // What holds of each workload that is read.
+    ensures sound { IfOk result IsWorkload }
 {
     let table = document(alloc, bytes)?;
     match workload_of(alloc, &table)? {

@@ -1,4 +1,6 @@
 // A world of three datacentres with one shard each, through a few events and commands: the text of what each prints.
+ghost use Rattle.std.specs.Prelude.{◌≡◌, []};
+
 use crate::Session;
 use rc_ids::{Cluster, DcId, Key, NodeId, ShardId, Text, TxId, Val};
 use rc_protocol::Event;
@@ -20,22 +22,29 @@ fn text_of(alloc: Global, lines: &Lines) -> Result<Text, Fail> {
     Ok(text)
 }
 
-/// The text of what an event prints.
-fn happens(alloc: Global, session: &mut Session, event: &Event) -> Result<Text, Fail> {
-    let mut lines = Lines::new(alloc);
-    session.happen(alloc, event, &mut lines)?;
-    text_of(alloc, &lines)
+/// Whether the event happens.
+fn happens(alloc: Global, session: &mut Session, event: &Event, lines: &mut Lines) -> bool {
+    match session.happen(alloc, event, lines) {
+        Ok(()) => true,
+        Err(_) => false,
+    }
 }
 
-/// The text of what a command prints.
-fn performs(alloc: Global, session: &mut Session, command: &Command) -> Result<Text, Fail> {
-    let mut lines = Lines::new(alloc);
-    session.perform(alloc, command, &mut lines)?;
-    text_of(alloc, &lines)
+/// Whether the command is performed to its end.
+fn performs(alloc: Global, session: &mut Session, command: &Command, lines: &mut Lines) -> bool
+    requires { lines.old ≡ [] }
+{
+    match session.perform(alloc, command, lines) {
+        Ok(()) => true,
+        Err(_) => false,
+    }
 }
 
-fn says(text: &Text, wanted: &[u8]) -> bool {
-    text.as_bytes() == wanted
+fn says(text: &Option<Text>, wanted: &[u8]) -> bool {
+    match text {
+        Some(text) => text.as_bytes() == wanted,
+        None => false,
+    }
 }
 
 /// A commit, and the stops and starts while its messages are under way.
@@ -56,18 +65,43 @@ fn event(alloc: Global, step: usize) -> Result<Event, Fail> {
     })
 }
 
+/// The text of what the event at a step prints, if it happens.
+fn happens_at(alloc: Global, session: &mut Session, step: usize) -> Result<Option<Text>, Fail> {
+    let event = event(alloc, step)?;
+    let mut lines = Lines::new(alloc);
+    if !happens(alloc, session, &event, &mut lines) {
+        return Ok(None);
+    }
+    Ok(Some(text_of(alloc, &lines)?))
+}
+
+/// The text of what the command prints, if it is performed.
+fn performed(
+    alloc: Global,
+    session: &mut Session,
+    command: &Command,
+) -> Result<Option<Text>, Fail> {
+    let mut lines = Lines::new(alloc);
+    if !performs(alloc, session, command, &mut lines) {
+        return Ok(None);
+    }
+    Ok(Some(text_of(alloc, &lines)?))
+}
+
 #[test]
 fn commits_over_stops(rt: HostRuntime) -> Result<(), Fail> {
     let alloc = rt.alloc();
     let mut session = new_session(alloc)?;
     let wanted: [&[u8]; 6] = [b"", b"", b"", b"", b"d2 stopped\n", b"d2 up\n"];
     for (step, wanted) in wanted.iter().enumerate() {
-        let text = happens(alloc, &mut session, &event(alloc, step)?)?;
-        assert!(rt; says(&text, wanted), "at {step}");
+        assert!(rt;
+            says(&happens_at(alloc, &mut session, step)?, wanted),
+            "at {step}"
+        );
     }
-    let text = performs(alloc, &mut session, &Command::Step(1000))?;
+    let text = performed(alloc, &mut session, &Command::Step(1000))?;
     assert!(rt; says(&text, b"d3.s1 stopped\nt1 committed\n"));
-    let text = performs(alloc, &mut session, &Command::Order)?;
+    let text = performed(alloc, &mut session, &Command::Order)?;
     assert!(rt; says(&text, b"order t1\n"));
     Ok(())
 }

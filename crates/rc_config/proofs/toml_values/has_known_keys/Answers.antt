@@ -1,8 +1,8 @@
-use Rattle.std.proofs.Common.{◌≡◌, true, false, Bool, string_bytes, rules, arith, sym, ◌∙◌}
+use Rattle.std.proofs.Common.{◌≡◌, true, false, string_bytes, arith, ◌∙◌}
 use Rattle.std.specs.List.{list_all}
 use Rattle.std.specs.BTreeMap.{keys}
 use Rattle.std.proofs.lemmas.Grind.{common_steps}
-use Rattle.rc_config.specs.Workload.{names_of, is_among, has_only}
+use Rattle.rc_config.specs.Workload.{names_of, is_among}
 use Rattle.rc_config.proofs.TomlKeys.{keys_only}
 use Rattle.rc_config.proofs.toml_values.has_known_keys.Goals as goal
 

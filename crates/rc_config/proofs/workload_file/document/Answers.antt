@@ -1,4 +1,4 @@
-use Rattle.std.proofs.Common.{◌≡◌, inl, inr, rules}
+use Rattle.std.proofs.Common.{inl, inr}
 use Rattle.rc_config.proofs.Documents.{document_some, document_none}
 use Rattle.rc_config.proofs.workload_file.document.Goals as goal
 
