@@ -29,10 +29,7 @@ fn run(
 #[test]
 fn texts(rt: HostRuntime) -> Result<(), Fail> {
     let rows = [
-        (
-            "world 1 1\norder\n",
-            "order\n",
-        ),
+        ("world 1 1\norder\n", "order\n"),
         (
             "world 3 1\nbegin t1\nread t1 x\nsettle\nwrite t1 x\nread t1 x\nsettle\ncommit t1\nsettle\nbegin t2\nread t2 x\nsettle\n",
             "t1 read x 0 -\nsettled 7\nt1 own x \nsettled 0\nt1 committed\nsettled 24\nt2 read x 1 \nsettled 7\n",

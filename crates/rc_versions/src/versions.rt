@@ -69,6 +69,7 @@ impl Versions {
         ensures spare { self.old.spare ≤ self.new.spare + 1 }
         ensures err { OnErr result (self.new ≡ self.old) }
         ensures full { OnErr result (self.old.spare ≡ 0) }
+        ensures absent { OnErr result (found key_cmp self.old.rows key.now ≡ None) }
     {
         let place = count_below(&self.rows, key);
         if has_at(&self.rows, place, key) {
