@@ -1,0 +1,9 @@
+use Rattle.std.proofs.Common.{◌≡◌, ◌≤◌, ◌+◌, ◌++◌, ℕ, List, filter, length, drop, take, vec_len, vec_capacity}
+use Rattle.rc_protocol.specs.Shard.{Mark, mark_cmp, added_all, is_taken, is_free, holder, reader}
+use Rattle.rc_locks.specs.LockSets.{cleared_all, parts_left, put_all}
+use Rattle.rc_locks.proofs.marks.clear_all.Given as goal
+
+abbrev pub invariant-loop-tx : goal.invariant-loop-tx
+invariant-loop-tx l =
+    (cleared_all l.marks.items (drop l.tx-index l.txs) ≡ cleared_all l.fn.marks.items l.txs)
+    × (vec_len l.marks ≤ vec_len l.fn.marks) × (vec_capacity l.marks ≡ vec_capacity l.fn.marks)

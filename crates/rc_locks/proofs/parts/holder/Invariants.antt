@@ -1,0 +1,7 @@
+use Rattle.std.proofs.Common.{◌≡◌, ◌≤◌, ◌+◌, ◌++◌, ℕ, List, filter, length, drop, take, vec_len, vec_capacity}
+use Rattle.rc_protocol.specs.Shard.{Mark, mark_cmp, added_all, is_taken, is_free, holder, reader}
+use Rattle.rc_locks.proofs.parts.holder.Given as goal
+
+abbrev pub invariant-loop-entry : goal.invariant-loop-entry
+invariant-loop-entry l =
+    holder (drop l.entry-index l.parts) l.key ≡ holder l.parts l.key

@@ -1,0 +1,6 @@
+use Rattle.std.proofs.Common.{◌≡◌}
+use Rattle.rc_locks.specs.LockSets.{put_all}
+use Rattle.rc_locks.proofs.parts.put_all.Given as goal
+
+abbrev pub invariant-loop-tx : goal.invariant-loop-tx
+invariant-loop-tx l = l.parts.items ≡ put_all l.fn.parts.items l.yielded

@@ -1,0 +1,16 @@
+//! The locks of a shard: who holds a key, who waits for it, and whether a part of a transaction may be prepared.
+#![tactic(auto)]
+
+mod answers;
+mod entries;
+mod marks;
+mod parts;
+mod plain;
+mod reasons;
+mod table;
+#[cfg(test)]
+mod tests;
+
+pub use answers::{Answer, Asked, Freed};
+pub use plain::PlainLocks;
+pub use table::LockTable;
