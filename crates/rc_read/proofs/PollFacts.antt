@@ -1,6 +1,5 @@
 -- Grants offered one after the other.
 use Rattle.std.proofs.Common.{◌≡◌, Bool, true, false, cond, List, [], ◌∷◌, ◌++◌, Option, None, Some, refl, sym, ap, ◌∙◌}
-use Rattle.std.specs.Prelude.{IfSome}
 use Rattle.std.proofs.lemmas.List.{append-nil, append_assoc}
 use Rattle.rc_ids.specs.Tables.{maybe}
 use Rattle.rc_protocol.specs.Client.{Grant}
