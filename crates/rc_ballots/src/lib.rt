@@ -2,7 +2,7 @@
 #![tactic(auto)]
 
 mod acceptor;
-mod tally;
+mod standings;
 
 pub use acceptor::Acceptor;
-pub use tally::{Standing, Tally};
+pub use standings::{Standing, Standings};

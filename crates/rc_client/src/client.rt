@@ -16,10 +16,10 @@ use crate::read::KeyRead;
 use crate::sends::{abandon, ask, ask_all, ask_rests, cancel, cancel_all, send_proposal};
 use crate::slot::Slot;
 use crate::slots::Slots;
-use rc_ballots::Tally;
+use rc_ballots::Standings;
 use rc_body::{Decision, Reason};
 use rc_ids::{Ballot, Cluster, DcId, DcSet, Key, NoMemory, TxId, Val, Version};
-use rc_msg::{Msg, Outbox};
+use rc_msg::{Messages, Msg};
 use rc_report::{Line, Lines};
 use std::alloc::Global;
 use std::marker::Model;
@@ -30,7 +30,7 @@ pub struct Client {
     phase: Phase,
     slots: Slots,
     refusals: DcSet,
-    votes: Tally,
+    votes: Standings,
     outcome: Option<Decision>,
 }
 
@@ -80,7 +80,7 @@ impl Client {
             phase: Phase::Open,
             slots: Slots::new(alloc),
             refusals: DcSet::new(),
-            votes: Tally::new(alloc),
+            votes: Standings::new(alloc),
             outcome: None,
         }
     }
@@ -112,7 +112,7 @@ impl Client {
         cluster: &Cluster,
         tx: TxId,
         key: &Key,
-        out: &mut Outbox,
+        out: &mut Messages,
         lines: &mut Lines,
     ) -> Result<(), ClientFault>
         requires { is_full_lem self.old key.now ≡ false }
@@ -133,7 +133,7 @@ impl Client {
         cluster: &Cluster,
         tx: TxId,
         key: &Key,
-        out: &mut Outbox,
+        out: &mut Messages,
     ) -> Result<(), NoMemory>
         requires absent { slot_of self.old.slots key.now ≡ None }
         requires room { length self.old.slots < 32 }
@@ -178,7 +178,7 @@ impl Client {
         &mut self,
         cluster: &Cluster,
         tx: TxId,
-        out: &mut Outbox,
+        out: &mut Messages,
     ) -> Result<(), ClientFault>
         ensures done { OnOk result (Says (do_commit cluster.now tx self.old) self.new out.old out.new) }
         ensures worn { IsErrOf result KeyWornOut → (do_commit cluster.now tx self.old).worn ≡ true }
@@ -199,7 +199,7 @@ impl Client {
         cluster: &Cluster,
         tx: TxId,
         key: &Key,
-        out: &mut Outbox,
+        out: &mut Messages,
     ) -> Result<(), ClientFault>
         ensures done { OnOk result (Says (do_cancel cluster.now tx self.old key.now) self.new out.old out.new) }
         ensures worn { IsErrOf result KeyWornOut → (do_cancel cluster.now tx self.old key.now).worn ≡ true }
@@ -223,7 +223,7 @@ impl Client {
         cluster: &Cluster,
         tx: TxId,
         key: &Key,
-        out: &mut Outbox,
+        out: &mut Messages,
     ) -> Result<(), NoMemory>
         ensures { OnOk result (Says (drops_read cluster.now tx self.old key.now) self.new out.old out.new) }
     {
@@ -232,7 +232,7 @@ impl Client {
     }
 
     /// Sends again what the client waits for, and stays as it is.
-    pub fn retry(&self, cluster: &Cluster, tx: TxId, out: &mut Outbox) -> Result<(), ClientFault>
+    pub fn retry(&self, cluster: &Cluster, tx: TxId, out: &mut Messages) -> Result<(), ClientFault>
         ensures done { OnOk result (Says (do_retry cluster.now tx self.now) self.now out.old out.new) }
         ensures worn { IsErrOf result KeyWornOut → (do_retry cluster.now tx self.now).worn ≡ true }
     {
@@ -245,7 +245,7 @@ impl Client {
     }
 
     /// Sends the same proposal again, or gives the transaction up where a quorum refused it.
-    fn propose_again(&self, cluster: &Cluster, tx: TxId, out: &mut Outbox) -> Result<(), NoMemory>
+    fn propose_again(&self, cluster: &Cluster, tx: TxId, out: &mut Messages) -> Result<(), NoMemory>
         requires { is_proposed self.now.phase ≡ true }
         ensures { OnOk result (out.new ≡ out.old ++ proposes_again cluster.now tx self.now) }
     {
@@ -256,7 +256,7 @@ impl Client {
     }
 
     /// Asks again for the keys whose read is under way, in key order, where they were not granted.
-    fn ask_again(&self, cluster: &Cluster, tx: TxId, out: &mut Outbox) -> Result<(), NoMemory>
+    fn ask_again(&self, cluster: &Cluster, tx: TxId, out: &mut Messages) -> Result<(), NoMemory>
         ensures { OnOk result (out.new ≡ out.old ++ asks_again cluster.now tx self.now.slots (waiting_keys self.now.slots)) }
     {
         let keys = self.slots.waiting_keys()?;
@@ -271,7 +271,12 @@ impl Client {
     }
 
     /// Proposes the commit at ballot 0.
-    fn propose(&mut self, cluster: &Cluster, tx: TxId, out: &mut Outbox) -> Result<(), ClientFault>
+    fn propose(
+        &mut self,
+        cluster: &Cluster,
+        tx: TxId,
+        out: &mut Messages,
+    ) -> Result<(), ClientFault>
         ensures done { OnOk result (Says (proposes cluster.now tx self.old self.old) self.new out.old out.new) }
         ensures worn { IsErrOf result KeyWornOut → (proposes cluster.now tx self.old self.old).worn ≡ true }
     {
@@ -285,7 +290,7 @@ impl Client {
     }
 
     /// Proposes, where the client commits and waits for no read.
-    fn go_on(&mut self, cluster: &Cluster, tx: TxId, out: &mut Outbox) -> Result<(), ClientFault>
+    fn go_on(&mut self, cluster: &Cluster, tx: TxId, out: &mut Messages) -> Result<(), ClientFault>
         ensures done { OnOk result (Says (goes_on cluster.now tx self.old self.old) self.new out.old out.new) }
         ensures worn { IsErrOf result KeyWornOut → (goes_on cluster.now tx self.old self.old).worn ≡ true }
     {
@@ -303,7 +308,7 @@ impl Client {
         key: &Key,
         prints: bool,
         grants: &Grants,
-        out: &mut Outbox,
+        out: &mut Messages,
         lines: &mut Lines,
     ) -> Result<(), ClientFault>
         requires { reads_on self.old.phase ≡ true }
@@ -326,7 +331,7 @@ impl Client {
         dc: DcId,
         version: Version,
         value: &Option<Val>,
-        out: &mut Outbox,
+        out: &mut Messages,
         lines: &mut Lines,
     ) -> Result<(), ClientFault>
         ensures done { OnOk result (Does (on_granted cluster.now tx self.old key.now (record { dc = dc; version = version; value = value.now }))
@@ -408,7 +413,7 @@ impl Client {
         ballot: Ballot,
         dc: DcId,
         reason: &Reason,
-        out: &mut Outbox,
+        out: &mut Messages,
         lines: &mut Lines,
     ) -> Result<(), NoMemory>
         ensures { OnOk result (Does (on_refused cluster.now tx self.old ballot dc reason.now) self.new out.old out.new lines.old lines.new) }
@@ -427,7 +432,7 @@ impl Client {
         cluster: &Cluster,
         tx: TxId,
         msg: &Msg,
-        out: &mut Outbox,
+        out: &mut Messages,
         lines: &mut Lines,
     ) -> Result<(), ClientFault>
         ensures done { OnOk result (Does (client_row cluster.now tx self.old msg.now) self.new out.old out.new lines.old lines.new) }
@@ -469,7 +474,7 @@ fn give_up(
     tx: TxId,
     refusals: DcSet,
     dc: DcId,
-    out: &mut Outbox,
+    out: &mut Messages,
 ) -> Result<(), NoMemory>
     ensures { OnOk result (out.new ≡ out.old ++ gives_up cluster.now tx refusals dc) }
 {

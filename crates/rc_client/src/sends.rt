@@ -13,7 +13,7 @@ use crate::slot::Slot;
 use crate::slots::Slots;
 use rc_body::{Body, Decision};
 use rc_ids::{Ballot, Cluster, DcId, DcSet, Key, NoMemory, NodeId, Party, ShardId, TxId};
-use rc_msg::{Msg, Outbox};
+use rc_msg::{Messages, Msg};
 use std::collections::BTreeSet;
 
 /// Sends the message to a shard of each datacentre.
@@ -21,7 +21,7 @@ fn send_to_shard(
     cluster: &Cluster,
     shard: ShardId,
     msg: &Msg,
-    out: &mut Outbox,
+    out: &mut Messages,
 ) -> Result<(), NoMemory>
     ensures { OnOk result (out.new ≡ out.old ++ to_each cluster.now.dcs (λ d. one (shard_server d shard) msg.now)) }
 {
@@ -33,7 +33,7 @@ fn send_to_shard(
 }
 
 /// Asks the key's shard of each datacentre for the key.
-pub fn ask(cluster: &Cluster, tx: TxId, key: &Key, out: &mut Outbox) -> Result<(), NoMemory>
+pub fn ask(cluster: &Cluster, tx: TxId, key: &Key, out: &mut Messages) -> Result<(), NoMemory>
     ensures { OnOk result (out.new ≡ out.old ++ asks cluster.now tx key.now) }
 {
     let msg = Msg::ReadAsk(tx, key.copy());
@@ -45,7 +45,7 @@ pub fn ask_all(
     cluster: &Cluster,
     tx: TxId,
     keys: BTreeSet<Key>,
-    out: &mut Outbox,
+    out: &mut Messages,
 ) -> Result<(), NoMemory>
     ensures { OnOk result (out.new ≡ out.old ++ asks_all cluster.now tx keys.keys) }
 {
@@ -61,7 +61,7 @@ fn send_to_others(
     shard: ShardId,
     granted: DcSet,
     msg: &Msg,
-    out: &mut Outbox,
+    out: &mut Messages,
 ) -> Result<(), NoMemory>
     ensures { OnOk result (out.new ≡ out.old ++ to_each cluster.now.dcs
         (λ d. if member nat_cmp granted d then [] else one (shard_server d shard) msg.now)) }
@@ -81,7 +81,7 @@ pub fn cancel(
     tx: TxId,
     key: &Key,
     grants: &Grants,
-    out: &mut Outbox,
+    out: &mut Messages,
 ) -> Result<(), NoMemory>
     ensures { OnOk result (out.new ≡ out.old ++ cancels cluster.now tx key.now grants.now) }
 {
@@ -96,7 +96,7 @@ pub fn cancel(
 }
 
 /// Sends the message to the coordinator of each datacentre.
-fn send_all(cluster: &Cluster, msg: &Msg, out: &mut Outbox) -> Result<(), NoMemory>
+fn send_all(cluster: &Cluster, msg: &Msg, out: &mut Messages) -> Result<(), NoMemory>
     ensures { OnOk result (out.new ≡ out.old ++ to_all cluster.now msg.now) }
 {
     for place in 0..cluster.dcs() {
@@ -111,7 +111,7 @@ pub fn send_proposal(
     cluster: &Cluster,
     tx: TxId,
     body: Body,
-    out: &mut Outbox,
+    out: &mut Messages,
 ) -> Result<(), NoMemory>
     ensures { OnOk result (out.new ≡ out.old ++ to_all cluster.now (Propose tx 0 (Commit body))) }
 {
@@ -120,7 +120,7 @@ pub fn send_proposal(
 }
 
 /// Gives the transaction up at its home.
-pub fn abandon(cluster: &Cluster, tx: TxId, out: &mut Outbox) -> Result<(), NoMemory>
+pub fn abandon(cluster: &Cluster, tx: TxId, out: &mut Messages) -> Result<(), NoMemory>
     ensures { OnOk result (out.new ≡ out.old ++ one (coordinator (home cluster.now tx)) (Abandon tx)) }
 {
     let home = NodeId::Coord(cluster.home(tx));
@@ -128,7 +128,12 @@ pub fn abandon(cluster: &Cluster, tx: TxId, out: &mut Outbox) -> Result<(), NoMe
 }
 
 /// Tells the key's shard of each datacentre that the key is no longer wanted.
-pub fn cancel_all(cluster: &Cluster, tx: TxId, key: &Key, out: &mut Outbox) -> Result<(), NoMemory>
+pub fn cancel_all(
+    cluster: &Cluster,
+    tx: TxId,
+    key: &Key,
+    out: &mut Messages,
+) -> Result<(), NoMemory>
     ensures { OnOk result (out.new ≡ out.old ++ to_each cluster.now.dcs (λ d. one (shard_server d (shard_of cluster.now key.now)) (ReadCancel tx key.now))) }
 {
     let msg = Msg::ReadCancel(tx, key.copy());
@@ -136,7 +141,7 @@ pub fn cancel_all(cluster: &Cluster, tx: TxId, key: &Key, out: &mut Outbox) -> R
 }
 
 /// Asks the key's shard of each datacentre that did not grant the read of the slot.
-fn ask_rest(cluster: &Cluster, tx: TxId, slot: &Slot, out: &mut Outbox) -> Result<(), NoMemory>
+fn ask_rest(cluster: &Cluster, tx: TxId, slot: &Slot, out: &mut Messages) -> Result<(), NoMemory>
     ensures { OnOk result (out.new ≡ out.old ++ asks_rest cluster.now tx slot.now) }
 {
     let key = slot.key();
@@ -150,7 +155,7 @@ fn ask_key(
     tx: TxId,
     slots: &Slots,
     key: &Key,
-    out: &mut Outbox,
+    out: &mut Messages,
 ) -> Result<(), NoMemory>
     ensures { OnOk result (out.new ≡ out.old ++ maybe (slot_of slots.now key.now) [] (asks_rest cluster.now tx)) }
 {
@@ -166,7 +171,7 @@ pub fn ask_rests(
     tx: TxId,
     slots: &Slots,
     keys: BTreeSet<Key>,
-    out: &mut Outbox,
+    out: &mut Messages,
 ) -> Result<(), NoMemory>
     ensures { OnOk result (out.new ≡ out.old ++ asks_again cluster.now tx slots.now keys.keys) }
 {

@@ -2,7 +2,7 @@
 use crate::{Client, Phase};
 use rc_body::Decision;
 use rc_ids::{Cluster, DcId, Key, TxId, Val, Version};
-use rc_msg::{Msg, Outbox};
+use rc_msg::{Messages, Msg};
 use rc_report::Lines;
 use std::alloc::Global;
 use std::test::Fail;
@@ -16,7 +16,7 @@ fn one_shard(alloc: Global) -> Result<Cluster, Fail> {
 
 /// Reads the key, which has room.
 fn reads(alloc: Global, cluster: &Cluster, client: &mut Client, key: &Key) -> Result<usize, Fail> {
-    let mut out = Outbox::new(alloc);
+    let mut out = Messages::new(alloc);
     let mut lines = Lines::new(alloc);
     if !client.is_full(key) {
         client.read(cluster, TX, key, &mut out, &mut lines)?;
@@ -25,7 +25,7 @@ fn reads(alloc: Global, cluster: &Cluster, client: &mut Client, key: &Key) -> Re
 }
 
 fn retries(alloc: Global, cluster: &Cluster, client: &Client) -> Result<usize, Fail> {
-    let mut out = Outbox::new(alloc);
+    let mut out = Messages::new(alloc);
     client.retry(cluster, TX, &mut out)?;
     Ok(out.len())
 }
@@ -37,7 +37,7 @@ fn hears(
     client: &mut Client,
     msg: &Msg,
 ) -> Result<(usize, usize), Fail> {
-    let mut out = Outbox::new(alloc);
+    let mut out = Messages::new(alloc);
     let mut lines = Lines::new(alloc);
     client.handle(cluster, TX, msg, &mut out, &mut lines)?;
     Ok((out.len(), lines.len()))
@@ -49,7 +49,7 @@ fn cancels(
     client: &mut Client,
     key: &Key,
 ) -> Result<usize, Fail> {
-    let mut out = Outbox::new(alloc);
+    let mut out = Messages::new(alloc);
     client.cancel(cluster, TX, key, &mut out)?;
     Ok(out.len())
 }
@@ -73,7 +73,7 @@ fn committing(alloc: Global, cluster: &Cluster) -> Result<Client, Fail> {
     if client.is_open() && !client.is_full(&key) {
         client.write(&key, &Val::new(alloc, b"x")?)?;
     }
-    let mut out = Outbox::new(alloc);
+    let mut out = Messages::new(alloc);
     client.commit(cluster, TX, &mut out)?;
     Ok(client)
 }

@@ -8,7 +8,7 @@ use crate::takeover::report_of;
 use crate::volatile::Volatile;
 use rc_body::Reason;
 use rc_ids::{Ballot, Cluster, DcId, NoMemory, TxId};
-use rc_msg::{Msg, Outbox};
+use rc_msg::{Messages, Msg};
 use rc_record::{CoordDurable, Record};
 
 /// The record of a promise, where it rises.
@@ -30,7 +30,7 @@ fn promises_at(
     volatile: &Volatile,
     tx: TxId,
     ballot: Ballot,
-    out: &mut Outbox,
+    out: &mut Messages,
 ) -> Result<Option<Record>, NoMemory>
     ensures { IfOk result (λ written. Does (promises_at_lem cluster.now dc durable.now volatile.now tx ballot) written volatile.now out.old out.new) }
 {
@@ -48,7 +48,7 @@ pub fn on_ask(
     volatile: &Volatile,
     tx: TxId,
     ballot: Ballot,
-    out: &mut Outbox,
+    out: &mut Messages,
 ) -> Result<Option<Record>, NoMemory>
     ensures { IfOk result (λ written. Does (on_ask_lem cluster.now dc durable.now volatile.now tx ballot) written volatile.now out.old out.new) }
 {

@@ -11,12 +11,12 @@ use crate::sending::{coordinator, finishes_all};
 use crate::volatile::Volatile;
 use rc_body::Page;
 use rc_ids::{Cluster, DcId, NoMemory, Party};
-use rc_msg::{Msg, Outbox};
+use rc_msg::{Messages, Msg};
 use rc_record::{CoordDurable, Outcomes, Record};
 use std::alloc::Global;
 
 /// Asks another coordinator for its outcomes from the place on to which its list was caught up with.
-fn asks(dc: DcId, volatile: &Volatile, other: DcId, out: &mut Outbox) -> Result<(), NoMemory>
+fn asks(dc: DcId, volatile: &Volatile, other: DcId, out: &mut Messages) -> Result<(), NoMemory>
     ensures { OnOk result (out.new ≡ out.old ++ (if other == dc then [] else one (coordinator_lem other) (CatchAsk (place_of volatile.now other)))) }
 {
     if other == dc {
@@ -30,7 +30,7 @@ pub fn catch_up(
     cluster: &Cluster,
     dc: DcId,
     volatile: &Volatile,
-    out: &mut Outbox,
+    out: &mut Messages,
 ) -> Result<(), NoMemory>
     ensures { OnOk result (out.new ≡ out.old ++ (do_catch cluster.now dc volatile.now).sends) }
 {
@@ -48,7 +48,7 @@ pub fn on_catch_ask(
     volatile: &Volatile,
     asker: &Party,
     place: u32,
-    out: &mut Outbox,
+    out: &mut Messages,
 ) -> Result<Option<Record>, NoMemory>
     ensures { IfOk result (λ written. Does (on_catch_ask_lem dc durable.now volatile.now asker.now place) written volatile.now out.old out.new) }
 {
@@ -93,7 +93,7 @@ fn outcomes_record(fresh: Page) -> Option<Record>
 }
 
 /// After a full page the next one is asked for.
-fn asks_next(from: DcId, next: u32, page: &Page, out: &mut Outbox) -> Result<(), NoMemory>
+fn asks_next(from: DcId, next: u32, page: &Page, out: &mut Messages) -> Result<(), NoMemory>
     ensures { OnOk result (out.new ≡ out.old ++ (if length page.now == most_entries then one (coordinator_lem from) (CatchAsk next) else [])) }
 {
     if page.len() != Page::MOST_ENTRIES {
@@ -113,7 +113,7 @@ fn takes_page(
     place: u32,
     next: u32,
     page: &Page,
-    out: &mut Outbox,
+    out: &mut Messages,
 ) -> Result<Option<Record>, NoMemory>
     requires { next ≡ place + length page.now }
     ensures { IfOk result (λ written. Does (takes_page_lem cluster.now dc (with_place volatile.old from (place + length page.now)) (undecided_lem durable.now.outcomes page.now) (asks_next_lem (coordinator_lem from) place page.now)) written volatile.new out.old out.new) }
@@ -136,7 +136,7 @@ pub fn on_catch_page(
     from: DcId,
     place: u32,
     page: &Page,
-    out: &mut Outbox,
+    out: &mut Messages,
 ) -> Result<Option<Record>, NoMemory>
     ensures { IfOk result (λ written. Does (if is_dc_lem cluster.now from then on_catch_page_lem cluster.now dc durable.now volatile.old from place page.now else coord_stays volatile.old) written volatile.new out.old out.new) }
 {

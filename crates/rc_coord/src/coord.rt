@@ -18,7 +18,7 @@ use crate::rows::row;
 use crate::volatile::Volatile;
 use rc_body::Decision;
 use rc_ids::{Ballot, Cluster, DcId, NoMemory, Outcome, Party, TxId};
-use rc_msg::{Msg, Outbox};
+use rc_msg::{Messages, Msg};
 use rc_record::{CoordDurable, Record};
 use std::alloc::Global;
 use std::marker::Model;
@@ -146,7 +146,7 @@ impl Coord {
         dc: DcId,
         from: &Party,
         msg: &Msg,
-        out: &mut Outbox,
+        out: &mut Messages,
     ) -> Result<(), CoordFault>
         requires { IsTrue (is_dc cluster.now dc) }
         ensures done { OnOk result (Handled (coord_row cluster.now dc self.old.durable self.old.volatile from.now msg.now) self.old self.new out.old out.new) }
@@ -174,7 +174,7 @@ impl Coord {
         cluster: &Cluster,
         dc: DcId,
         tx: TxId,
-        out: &mut Outbox,
+        out: &mut Messages,
     ) -> Result<(), CoordFault>
         requires { IsTrue (is_dc cluster.now dc) }
         ensures done { OnOk result (Handled (do_take cluster.now dc self.old.durable self.old.volatile tx) self.old self.new out.old out.new) }
@@ -187,7 +187,7 @@ impl Coord {
     }
 
     /// Asks each other coordinator for the outcomes that it may have more.
-    pub fn catch(&self, cluster: &Cluster, dc: DcId, out: &mut Outbox) -> Result<(), NoMemory>
+    pub fn catch(&self, cluster: &Cluster, dc: DcId, out: &mut Messages) -> Result<(), NoMemory>
         ensures { OnOk result (out.new ≡ out.old ++ (do_catch cluster.now dc self.now.volatile).sends) }
     {
         catch_up(cluster, dc, &self.volatile, out)

@@ -13,7 +13,7 @@ use crate::takeover::TakeOver;
 use crate::volatile::Volatile;
 use rc_body::Decision;
 use rc_ids::{Ballot, Cluster, DcId, NoMemory, Party, TxId};
-use rc_msg::{Msg, Outbox};
+use rc_msg::{Messages, Msg};
 use rc_record::{CoordDurable, Record};
 
 fn opens(
@@ -22,7 +22,7 @@ fn opens(
     tx: TxId,
     is_eager: bool,
     ballot: Ballot,
-    out: &mut Outbox,
+    out: &mut Messages,
 ) -> Result<Option<Record>, NoMemory>
     ensures { IfOk result (λ written. Does (opens_lem cluster.now volatile.old tx is_eager ballot) written volatile.new out.old out.new) }
 {
@@ -38,7 +38,7 @@ fn takes_over(
     volatile: &mut Volatile,
     tx: TxId,
     is_eager: bool,
-    out: &mut Outbox,
+    out: &mut Messages,
 ) -> Result<Option<Record>, CoordFault>
     requires { IsTrue (is_dc_lem cluster.now dc) }
     ensures ok { IfOk result (λ written. Does (takes_over_lem cluster.now dc durable.now volatile.old tx is_eager) written volatile.new out.old out.new) }
@@ -57,7 +57,7 @@ pub fn on_abandon(
     durable: &CoordDurable,
     volatile: &mut Volatile,
     tx: TxId,
-    out: &mut Outbox,
+    out: &mut Messages,
 ) -> Result<Option<Record>, CoordFault>
     requires { IsTrue (is_dc_lem cluster.now dc) }
     ensures ok { IfOk result (λ written. Does (on_abandon_lem cluster.now dc durable.now volatile.old tx) written volatile.new out.old out.new) }
@@ -79,7 +79,7 @@ pub fn take(
     durable: &CoordDurable,
     volatile: &mut Volatile,
     tx: TxId,
-    out: &mut Outbox,
+    out: &mut Messages,
 ) -> Result<Option<Record>, CoordFault>
     requires { IsTrue (is_dc_lem cluster.now dc) }
     ensures ok { IfOk result (λ written. Does (do_take cluster.now dc durable.now volatile.old tx) written volatile.new out.old out.new) }
@@ -119,7 +119,7 @@ fn goes_on(
     volatile: &mut Volatile,
     tx: TxId,
     takeover: TakeOver,
-    out: &mut Outbox,
+    out: &mut Messages,
 ) -> Result<Option<Record>, NoMemory>
     ensures { IfOk result (λ written. Does (goes_on_lem cluster.now volatile.old tx takeover) written volatile.new out.old out.new) }
 {
@@ -145,7 +145,7 @@ pub fn on_promise(
     ballot: Ballot,
     from: DcId,
     report: &Option<(Ballot, Decision)>,
-    out: &mut Outbox,
+    out: &mut Messages,
 ) -> Result<Option<Record>, NoMemory>
     ensures { IfOk result (λ written. Does (if is_dc_lem cluster.now from then on_promise_lem cluster.now durable.now volatile.old tx ballot from report.now else coord_stays volatile.old) written volatile.new out.old out.new) }
 {

@@ -14,7 +14,7 @@ use crate::sending::{prepares, proposer, refuse, tell, vote};
 use crate::volatile::Volatile;
 use rc_body::{Decision, Reason};
 use rc_ids::{Ballot, Cluster, DcId, NoMemory, ShardId, TxId};
-use rc_msg::Outbox;
+use rc_msg::Messages;
 use rc_record::{CoordDurable, Record};
 
 /// Accepts a decision: the vote is sent, and written by the caller.
@@ -25,7 +25,7 @@ fn accepts(
     tx: TxId,
     ballot: Ballot,
     decision: Decision,
-    out: &mut Outbox,
+    out: &mut Messages,
 ) -> Result<Option<Record>, NoMemory>
     ensures { IfOk result (λ written. Does (accepts_lem cluster.now dc volatile.now tx ballot decision) written volatile.now out.old out.new) }
 {
@@ -40,7 +40,7 @@ fn accepts_gather(
     volatile: &mut Volatile,
     tx: TxId,
     gather: Gather,
-    out: &mut Outbox,
+    out: &mut Messages,
 ) -> Result<Option<Record>, NoMemory>
     ensures { IfOk result (λ written. Does (accepts_lem cluster.now dc (with_gather volatile.old tx gather) tx gather.ballot (Commit gather.body)) written volatile.new out.old out.new) }
 {
@@ -56,7 +56,7 @@ fn gathers_on(
     volatile: &mut Volatile,
     tx: TxId,
     gather: Gather,
-    out: &mut Outbox,
+    out: &mut Messages,
 ) -> Result<Option<Record>, NoMemory>
     ensures { IfOk result (λ written. Does (gathers_on_lem cluster.now dc volatile.old tx gather) written volatile.new out.old out.new) }
 {
@@ -75,7 +75,7 @@ fn takes_proposal(
     tx: TxId,
     ballot: Ballot,
     decision: &Decision,
-    out: &mut Outbox,
+    out: &mut Messages,
 ) -> Result<Option<Record>, NoMemory>
     ensures { IfOk result (λ written. Does (takes_proposal_lem cluster.now dc volatile.old tx ballot decision.now) written volatile.new out.old out.new) }
 {
@@ -107,7 +107,7 @@ pub fn on_propose(
     tx: TxId,
     ballot: Ballot,
     decision: &Decision,
-    out: &mut Outbox,
+    out: &mut Messages,
 ) -> Result<Option<Record>, NoMemory>
     ensures { IfOk result (λ written. Does (on_propose_lem cluster.now dc durable.now volatile.old tx ballot decision.now) written volatile.new out.old out.new) }
 {
@@ -156,7 +156,7 @@ fn said_yes(
     volatile: &mut Volatile,
     tx: TxId,
     gather: Gather,
-    out: &mut Outbox,
+    out: &mut Messages,
 ) -> Result<Option<Record>, NoMemory>
     ensures { IfOk result (λ written. Does (said_yes_lem cluster.now dc durable.now volatile.old tx gather) written volatile.new out.old out.new) }
 {
@@ -184,7 +184,7 @@ pub fn on_prepared(
     tx: TxId,
     shard: ShardId,
     reason: &Option<Reason>,
-    out: &mut Outbox,
+    out: &mut Messages,
 ) -> Result<Option<Record>, NoMemory>
     ensures { IfOk result (λ written. Does (if is_shard_lem cluster.now shard then on_prepared_lem cluster.now dc durable.now volatile.old tx shard reason.now else coord_stays volatile.old) written volatile.new out.old out.new) }
 {

@@ -13,7 +13,7 @@ use crate::proposals::{on_prepared, on_propose};
 use crate::volatile::Volatile;
 use crate::voting::{on_decided, on_voted};
 use rc_ids::{Cluster, DcId, Party};
-use rc_msg::{Msg, Outbox};
+use rc_msg::{Messages, Msg};
 use rc_record::{CoordDurable, Record};
 use std::alloc::Global;
 
@@ -26,7 +26,7 @@ pub fn row(
     volatile: &mut Volatile,
     from: &Party,
     msg: &Msg,
-    out: &mut Outbox,
+    out: &mut Messages,
 ) -> Result<Option<Record>, CoordFault>
     requires { IsTrue (is_dc cluster.now dc) }
     ensures ok { IfOk result (λ written. Does (coord_row cluster.now dc durable.now volatile.old from.now msg.now) written volatile.new out.old out.new) }

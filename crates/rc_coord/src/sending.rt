@@ -9,7 +9,7 @@ use crate::counts::{dc_count, shard_count};
 use crate::gather::Gather;
 use rc_body::{Body, Decision, Page, Reason};
 use rc_ids::{Ballot, Cluster, DcId, NoMemory, NodeId, Party, ShardId, TxId};
-use rc_msg::{Msg, Outbox};
+use rc_msg::{Messages, Msg};
 
 pub fn coordinator(dc: DcId) -> Party
     ensures { result ≡ coordinator_lem dc }
@@ -44,7 +44,7 @@ pub fn proposer(cluster: &Cluster, tx: TxId, ballot: Ballot) -> Party
 }
 
 /// Sends the message to the coordinators of all datacentres.
-pub fn to_all(cluster: &Cluster, msg: &Msg, out: &mut Outbox) -> Result<(), NoMemory>
+pub fn to_all(cluster: &Cluster, msg: &Msg, out: &mut Messages) -> Result<(), NoMemory>
     ensures { OnOk result (out.new ≡ out.old ++ to_all_lem cluster.now msg.now) }
 {
     for place in 0..dc_count(cluster) {
@@ -60,7 +60,7 @@ pub fn vote(
     tx: TxId,
     ballot: Ballot,
     decision: &Decision,
-    out: &mut Outbox,
+    out: &mut Messages,
 ) -> Result<(), NoMemory>
     ensures { OnOk result (out.new ≡ out.old ++ vote_lem cluster.now dc tx ballot decision.now) }
 {
@@ -76,7 +76,7 @@ pub fn refuse(
     tx: TxId,
     ballot: Ballot,
     reason: Reason,
-    out: &mut Outbox,
+    out: &mut Messages,
 ) -> Result<(), NoMemory>
     ensures { OnOk result (out.new ≡ out.old ++ one to (Refused tx ballot dc reason)) }
 {
@@ -84,7 +84,7 @@ pub fn refuse(
 }
 
 /// Tells a party the outcome.
-pub fn tell(to: Party, tx: TxId, outcome: &Decision, out: &mut Outbox) -> Result<(), NoMemory>
+pub fn tell(to: Party, tx: TxId, outcome: &Decision, out: &mut Messages) -> Result<(), NoMemory>
     ensures { OnOk result (out.new ≡ out.old ++ one to (Decided tx outcome.now)) }
 {
     out.push(to, &Msg::Decided(tx, outcome.copy()?))
@@ -96,7 +96,7 @@ pub fn propose(
     tx: TxId,
     ballot: Ballot,
     decision: Decision,
-    out: &mut Outbox,
+    out: &mut Messages,
 ) -> Result<(), NoMemory>
     ensures { OnOk result (out.new ≡ out.old ++ to_all_lem cluster.now (Propose tx ballot decision)) }
 {
@@ -108,14 +108,20 @@ fn finish(
     tx: TxId,
     decision: Decision,
     shard: ShardId,
-    out: &mut Outbox,
+    out: &mut Messages,
 ) -> Result<(), NoMemory>
     ensures { OnOk result (out.new ≡ out.old ++ one (shard_server_lem dc shard) (Finish tx decision)) }
 {
     out.push(shard_server(dc, shard), &Msg::Finish(tx, decision))
 }
 
-fn prepare(dc: DcId, tx: TxId, part: Body, shard: ShardId, out: &mut Outbox) -> Result<(), NoMemory>
+fn prepare(
+    dc: DcId,
+    tx: TxId,
+    part: Body,
+    shard: ShardId,
+    out: &mut Messages,
+) -> Result<(), NoMemory>
     ensures { OnOk result (out.new ≡ out.old ++ one (shard_server_lem dc shard) (Prepare tx part)) }
 {
     out.push(shard_server(dc, shard), &Msg::Prepare(tx, part))
@@ -128,7 +134,7 @@ fn finish_to(
     tx: TxId,
     decision: &Decision,
     shard: ShardId,
-    out: &mut Outbox,
+    out: &mut Messages,
 ) -> Result<(), NoMemory>
     ensures { OnOk result (out.new ≡ out.old ++ finish_to_lem cluster.now dc tx decision.now shard) }
 {
@@ -150,7 +156,7 @@ pub fn finishes(
     dc: DcId,
     tx: TxId,
     decision: &Decision,
-    out: &mut Outbox,
+    out: &mut Messages,
 ) -> Result<(), NoMemory>
     ensures { OnOk result (out.new ≡ out.old ++ finishes_lem cluster.now dc tx decision.now) }
 {
@@ -165,7 +171,7 @@ pub fn finishes_all(
     cluster: &Cluster,
     dc: DcId,
     page: &Page,
-    out: &mut Outbox,
+    out: &mut Messages,
 ) -> Result<(), NoMemory>
     ensures { OnOk result (out.new ≡ out.old ++ finishes_all_lem cluster.now dc page.now) }
 {
@@ -183,7 +189,7 @@ fn prepare_to(
     tx: TxId,
     gather: &Gather,
     shard: ShardId,
-    out: &mut Outbox,
+    out: &mut Messages,
 ) -> Result<(), NoMemory>
     ensures { OnOk result (out.new ≡ out.old ++ prepare_to_lem cluster.now dc tx gather.now shard) }
 {
@@ -200,7 +206,7 @@ pub fn prepares(
     dc: DcId,
     tx: TxId,
     gather: &Gather,
-    out: &mut Outbox,
+    out: &mut Messages,
 ) -> Result<(), NoMemory>
     ensures { OnOk result (out.new ≡ out.old ++ to_each cluster.now.shards (prepare_to_lem cluster.now dc tx gather.now)) }
 {

@@ -4,7 +4,7 @@ ghost use Rattle.std.specs.Prelude.{◌≡◌, IfOk};
 use crate::Coord;
 use rc_body::{Body, Decision, Entry, Page};
 use rc_ids::{Ballot, Cluster, DcId, Key, Outcome, Party, ShardId, TxId, Val, Version};
-use rc_msg::{Msg, Outbox};
+use rc_msg::{Messages, Msg};
 use rc_record::Record;
 use std::alloc::Global;
 use std::test::Fail;
@@ -43,7 +43,7 @@ fn page(alloc: Global, first: u8, entries: u8) -> Result<Page, Fail> {
 /// How many messages the coordinator of d1 sends at a message, and how many records its log then has.
 fn told(alloc: Global, coord: &mut Coord, msg: &Msg) -> Result<(usize, usize), Fail> {
     let cluster = world(alloc)?;
-    let mut out = Outbox::new(alloc);
+    let mut out = Messages::new(alloc);
     coord.handle(&cluster, DcId(1), &Party::Client(TxId(9)), msg, &mut out)?;
     Ok((out.len(), coord.log_len()))
 }
@@ -137,7 +137,7 @@ fn takes_over_patiently(rt: HostRuntime) -> Result<(), Fail> {
 /// How many messages a take-over of t2 by command sends.
 fn taken(alloc: Global, coord: &mut Coord) -> Result<usize, Fail> {
     let cluster = world(alloc)?;
-    let mut out = Outbox::new(alloc);
+    let mut out = Messages::new(alloc);
     coord.take(&cluster, DcId(1), TxId(2), &mut out)?;
     Ok(out.len())
 }
@@ -175,7 +175,7 @@ fn caught(alloc: Global, coord: &mut Coord, step: usize) -> Result<(usize, usize
 /// How many messages a catch-up by command sends.
 fn asked(alloc: Global, coord: &Coord) -> Result<usize, Fail> {
     let cluster = world(alloc)?;
-    let mut out = Outbox::new(alloc);
+    let mut out = Messages::new(alloc);
     coord.catch(&cluster, DcId(1), &mut out)?;
     Ok(out.len())
 }

@@ -4,7 +4,7 @@ ghost use Rattle.std.specs.Ordering.{nat_cmp};
 ghost use Rattle.rc_ids.specs.Tables.{found, put, without, maybe};
 ghost use Rattle.rc_protocol.specs.Coordinator.{counted, is_decided_by, Standing};
 
-use rc_ballots::Tally;
+use rc_ballots::Standings;
 use rc_body::Decision;
 use rc_ids::{Ballot, Cluster, DcId, NoMemory, TxId};
 use std::alloc::Global;
@@ -14,7 +14,7 @@ use std::marker::Model;
 /// The tally of each open transaction that was voted on.
 #[derive(Drop)]
 pub struct Votes {
-    map: BTreeMap<TxId, Tally>,
+    map: BTreeMap<TxId, Standings>,
 }
 
 impl Model for Votes {
@@ -50,7 +50,7 @@ impl Votes {
         match self.map.get_mut(&tx) {
             Some(tally) => tally.add(dc, ballot, decision),
             None => {
-                let mut tally = Tally::new(alloc);
+                let mut tally = Standings::new(alloc);
                 tally.add(dc, ballot, decision)?;
                 self.map.insert(tx, tally)?;
                 Ok(())
@@ -72,7 +72,7 @@ impl Votes {
     {
         match self.map.get(&tx) {
             Some(tally) => tally.would_decide(cluster, dc, ballot, decision),
-            None => Tally::new(alloc).would_decide(cluster, dc, ballot, decision),
+            None => Standings::new(alloc).would_decide(cluster, dc, ballot, decision),
         }
     }
 

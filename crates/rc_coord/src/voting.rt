@@ -9,7 +9,7 @@ use crate::sending::finishes;
 use crate::volatile::Volatile;
 use rc_body::{Decision, Page};
 use rc_ids::{Ballot, Cluster, DcId, NoMemory, TxId};
-use rc_msg::Outbox;
+use rc_msg::Messages;
 use rc_record::{CoordDurable, Record};
 use std::alloc::Global;
 
@@ -21,7 +21,7 @@ fn learns(
     volatile: &mut Volatile,
     tx: TxId,
     decision: &Decision,
-    out: &mut Outbox,
+    out: &mut Messages,
 ) -> Result<Option<Record>, NoMemory>
     ensures { IfOk result (λ written. Does (learns_lem cluster.now dc volatile.old tx decision.now) written volatile.new out.old out.new) }
 {
@@ -42,7 +42,7 @@ pub fn on_voted(
     ballot: Ballot,
     from: DcId,
     decision: &Decision,
-    out: &mut Outbox,
+    out: &mut Messages,
 ) -> Result<Option<Record>, NoMemory>
     ensures { IfOk result (λ written. Does (if is_dc_lem cluster.now from then on_voted_lem cluster.now dc durable.now volatile.old tx ballot from decision.now else coord_stays volatile.old) written volatile.new out.old out.new) }
 {
@@ -65,7 +65,7 @@ pub fn on_decided(
     volatile: &mut Volatile,
     tx: TxId,
     decision: &Decision,
-    out: &mut Outbox,
+    out: &mut Messages,
 ) -> Result<Option<Record>, NoMemory>
     ensures { IfOk result (λ written. Does (on_decided_lem cluster.now dc durable.now volatile.old tx decision.now) written volatile.new out.old out.new) }
 {

@@ -1,13 +1,13 @@
 -- Messages are read where their spelling stands first, and nowhere else.
-use Rattle.std.proofs.Common.{◌≡◌, ℕ, zero, suc, ◌≤◌, ◌==◌, ◌≢◌, Bool, true, false, cond, not, List, [], ◌∷◌, ◌++◌, Option, Some, None, refl, sym, ap, ◌∙◌, arith}
+use Rattle.std.proofs.Common.{◌≡◌, ℕ, zero, suc, ◌==◌, ◌≢◌, Bool, true, false, cond, not, List, ◌++◌, Option, Some, None, refl, ap}
 use Rattle.std.specs.Prelude.{IfSome, is_some, nat_le}
 use Rattle.std.proofs.lemmas.Bool.{leb-true, le-leb}
 use Rattle.rc_ids.specs.Texts.{IsKey}
 use Rattle.rc_ids.specs.declared.names.Party.{Party}
 use Rattle.rc_fields.specs.Ranges.{IsDcNumber, IsShardNumber, IsTxNumber, IsPlace, IsBallotNumber, IsVersionNumber, IsPartyName}
 use Rattle.rc_fields.specs.Spelling.{u8_bytes, u32_bytes, u64_bytes, key_bytes, party_bytes}
-use Rattle.rc_fields.specs.Formats.{Reader, Reads, both_at, mapped_at, tested_at, tagged_at, pick, none_at, option_bytes, option_at}
-use Rattle.rc_fields.specs.Whole.{ReadsAll, all_of}
+use Rattle.rc_fields.specs.Formats.{Reads, both_at, tested_at, tagged_at, pick, none_at, option_bytes, option_at}
+use Rattle.rc_fields.specs.Whole.{ReadsAll}
 use Rattle.rc_fields.specs.Names.{place_at, tx_at, ballot_at, version_at, dc_at, shard_at, key_at, party_at}
 use Rattle.rc_fields.proofs.FormatLaws.{Reads-mapped, Reads-same, Reads-both, Reads-tested, Reads-tagged, Picks, Picks-end, Picks-more, Takes, Takes-none, Takes-mapped, mapped_again, Chooses-pick, Reads-option}
 use Rattle.rc_fields.proofs.NameLaws.{Reads-place, Reads-tx, Reads-ballot, Reads-version, Reads-dc, Reads-shard, Reads-key, Reads-party}
@@ -22,7 +22,7 @@ use Rattle.rc_body.specs.declared.reason.Reason.TheVariants.{Locked, Lost, Stale
 use Rattle.rc_msg.specs.declared.msg.Envelope.{Envelope}
 use Rattle.rc_msg.specs.declared.msg.Msg.{Msg}
 use Rattle.rc_msg.specs.declared.msg.Msg.TheVariants.{ReadAsk, ReadCancel, Granted, Propose, Prepare, Prepared, Voted, Refused, Ask, Promise, Decided, Finish, Abandon, CatchAsk, CatchPage}
-use Rattle.rc_msg.specs.Spelling.{answer_bytes, msg_bytes, envelope_bytes, IsRow, IsOwnedBallot, IsShardReason, HasMsg, HasEnvelope}
+use Rattle.rc_msg.specs.Spelling.{answer_bytes, msg_bytes, envelope_bytes, IsOwnedBallot, IsShardReason, HasMsg, HasEnvelope}
 use Rattle.rc_msg.specs.Reading.{owned_at, is_shard_reason, answer_at, TxKey, tx_key_at, Grant, has_row, grant_at, TxBallot, tx_ballot_at, tx_owned_at, read_ask_at, read_cancel_at, granted_at, propose_at, prepare_at, prepared_at, voted_at, refused_at, ask_at, promise_at, decided_at, finish_at, abandon_at, catch_ask_at, catch_page_at, kinds_at, msg_at, envelope_of, envelope_at, envelope_in}
 
 -- FIELDS

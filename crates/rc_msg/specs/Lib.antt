@@ -1,3 +1,4 @@
 -- The one spelling of each message, and how it is read.
 pub mod Spelling
 pub mod Reading
+pub mod Outboxes

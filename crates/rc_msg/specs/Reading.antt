@@ -1,5 +1,5 @@
 -- Reading messages from the front of bytes.
-use Rattle.std.specs.Prelude.{ℕ, ◌==◌, nat_le, Bool, true, false, not, List, [], ◌∷◌, Option, None, Some, is_some, if◌then◌else◌}
+use Rattle.std.specs.Prelude.{ℕ, ◌==◌, nat_le, Bool, true, false, not, List, [], ◌∷◌, Option, is_some, if◌then◌else◌}
 use Rattle.rc_ids.specs.declared.names.Party.{Party}
 use Rattle.rc_fields.specs.Formats.{Reader, both_at, mapped_at, tested_at, tagged_at, pick, none_at, option_at}
 use Rattle.rc_fields.specs.Whole.{all_of}
@@ -8,7 +8,7 @@ use Rattle.rc_body.specs.Reading.{held_at, body_at, decision_at, reason_at, repo
 use Rattle.rc_body.specs.declared.entry.Entry.{Entry}
 use Rattle.rc_body.specs.declared.decision.Decision.{Decision}
 use Rattle.rc_body.specs.declared.reason.Reason.{Reason}
-use Rattle.rc_body.specs.declared.reason.Reason.TheVariants.{Locked, Lost, Stale, Promised as PromisedHigher}
+use Rattle.rc_body.specs.declared.reason.Reason.TheVariants.{Promised as PromisedHigher}
 use Rattle.rc_msg.specs.declared.msg.Envelope.{Envelope}
 use Rattle.rc_msg.specs.declared.msg.Msg.{Msg}
 use Rattle.rc_msg.specs.declared.msg.Msg.TheVariants.{ReadAsk, ReadCancel, Granted, Propose, Prepare, Prepared, Voted, Refused, Ask, Promise, Decided, Finish, Abandon, CatchAsk, CatchPage}

@@ -1,5 +1,5 @@
 -- The bytes of messages, and which messages have a spelling.
-use Rattle.std.specs.Prelude.{◌≡◌, ℕ, ◌≤◌, ◌==◌, Bool, List, [], ◌∷◌, ◌++◌, Option, Some, None, IfSome, is_some, not}
+use Rattle.std.specs.Prelude.{◌≡◌, ℕ, ◌≤◌, ◌==◌, List, ◌++◌, Option, Some, None, IfSome, is_some, not}
 use Rattle.rc_ids.specs.Texts.{IsKey}
 use Rattle.rc_fields.specs.Ranges.{IsDcNumber, IsShardNumber, IsTxNumber, IsPlace, IsBallotNumber, IsVersionNumber, IsPartyName}
 use Rattle.rc_fields.specs.Spelling.{u8_bytes, u32_bytes, u64_bytes, key_bytes, party_bytes}

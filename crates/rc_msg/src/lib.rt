@@ -2,6 +2,7 @@
 #![tactic(auto)]
 
 mod kinds;
+mod messages;
 mod msg;
 mod outbox;
 mod reading;
@@ -9,6 +10,7 @@ mod reading;
 mod tests;
 mod writing;
 
+pub use messages::Messages;
 pub use msg::{Envelope, Msg};
 pub use outbox::Outbox;
 pub use reading::{decode, message_laws};

@@ -1,65 +1,82 @@
-// What a party is about to send.
-ghost use Rattle.std.specs.Prelude.{◌≡◌, ◌==◌, [], ◌∷◌, ◌++◌, length, OnOk, OnErr};
+// What a party is about to send, as bytes.
+ghost use Rattle.std.specs.Prelude.{◌≡◌, ◌≤◌, ◌==◌, [], length, take, OnOk, OnErr};
+ghost use Rattle.rc_msg.specs.Outboxes.{new_outbox, posted, cut as cut_lem};
 
 use crate::Msg;
-use rc_ids::{NoMemory, Party};
+use crate::writing::spelled;
+use rc_ids::{Letter, NoMemory, Party, Sends};
 use std::alloc::Global;
 use std::marker::Model;
 
-/// The messages that a party is about to send, each with its receiver, in order.
+/// The messages that a party is about to send, each with its receiver, in order. Each is kept as its one spelling, with that
+/// sender.
 #[derive(Drop)]
 pub struct Outbox {
-    sends: Vec<(Party, Msg)>,
+    alloc: Global,
+    from: Party,
+    letters: Sends,
 }
 
 impl Model for Outbox {
-    ghost use Rattle.std.specs.Prelude.{List};
-    ghost use Rattle.rc_ids.specs.declared.names.Party.{Party};
-    ghost use Rattle.rc_msg.specs.declared.msg.Msg.{Msg};
+    ghost use Rattle.rc_msg.specs.Outboxes.{Outbox as State};
 
-    ghost Value = { List (Party × Msg) };
+    ghost Value = { State };
 
-    ghost view = { λ o. o.sends.items };
+    ghost view = { λ o. record { from = o.from; letters = o.letters } };
 }
 
 impl Outbox {
-    /// Nothing to send.
-    pub fn new(alloc: Global) -> Outbox
-        ensures { result ≡ [] }
+    /// Nothing to send by this party.
+    pub fn new(alloc: Global, from: Party) -> Outbox
+        ensures { result ≡ new_outbox from }
     {
         Outbox {
-            sends: Vec::new(alloc),
+            alloc,
+            from,
+            letters: Sends::new(alloc),
         }
     }
 
     /// Adds a message at the end, or leaves all as before.
     pub fn push(&mut self, to: Party, msg: &Msg) -> Result<(), NoMemory>
-        ensures ok { OnOk result (self.new ≡ self.old ++ (to, msg.now) ∷ []) }
+        ensures ok { OnOk result (self.new ≡ posted self.old to msg.now) }
         ensures err { OnErr result (self.new ≡ self.old) }
     {
-        let msg = msg.copy()?;
-        self.sends.push((to, msg))?;
+        let bytes = spelled(self.alloc, &self.from, &to, msg)?;
+        self.letters.push(Letter {
+            to,
+            bytes,
+            mark: true,
+        })?;
         Ok(())
     }
 
     /// How many messages there are.
     pub fn len(&self) -> usize
-        ensures { result ≡ length self.now }
+        ensures { result ≡ length self.now.letters }
     {
-        self.sends.len()
+        self.letters.len()
     }
 
     /// Whether there is none.
     pub fn is_empty(&self) -> bool
-        ensures { result ≡ (length self.now == 0) }
+        ensures { result ≡ (length self.now.letters == 0) }
     {
-        self.sends.is_empty()
+        self.letters.is_empty()
     }
 
-    /// The messages with their receivers, in order.
-    pub fn into_sends(self) -> Vec<(Party, Msg)>
-        ensures { result.items ≡ self }
+    /// Keeps the first `len` messages.
+    pub fn cut(&mut self, len: usize)
+        requires { len ≤ length self.old.letters }
+        ensures { self.new ≡ cut_lem self.old len }
     {
-        self.sends
+        self.letters.cut(len);
+    }
+
+    /// The messages, as a network takes them.
+    pub fn into_sends(self) -> Sends
+        ensures { result ≡ self.letters }
+    {
+        self.letters
     }
 }

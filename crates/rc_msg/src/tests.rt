@@ -1,5 +1,5 @@
 // One call of each function, with ample memory, and bytes that stand in the description of messages.
-use crate::{Envelope, Msg, decode, encode};
+use crate::{Envelope, Msg, Outbox, decode, encode};
 use rc_ids::{Blob, DcId, Key, NodeId, Party, TxId, Version};
 use std::alloc::Global;
 use std::process::Abort;
@@ -58,5 +58,25 @@ fn refused(rt: HostRuntime) -> Result<(), Fail> {
     // ballot 0 in an Ask, and a kind that there is not
     assert!(rt; !is_message(alloc, &[2, 0, 0, 0, 1, 0, 2, 9, 0, 0, 0, 1, 0, 0, 0, 0])?);
     assert!(rt; !is_message(alloc, &[2, 0, 0, 0, 1, 0, 2, 16, 0, 0, 0, 1])?);
+    Ok(())
+}
+
+#[test]
+fn outbox(rt: HostRuntime) -> Result<(), Fail> {
+    let alloc = rt.alloc();
+    let mut out = Outbox::new(alloc, Party::Client(TxId(1)));
+    assert!(rt; out.is_empty());
+    out.push(Party::Node(NodeId::Coord(DcId(2))), &Msg::Abandon(TxId(1)))?;
+    out.push(Party::Node(NodeId::Coord(DcId(3))), &Msg::Abandon(TxId(1)))?;
+    assert_eq!(rt; out.len(), 2);
+    out.cut(1);
+    let sends = out.into_sends();
+    assert_eq!(rt; sends.len(), 1);
+    let letter = sends.get(0).ok_or("no letter")?;
+    assert!(rt; letter.to == Party::Node(NodeId::Coord(DcId(2))));
+    assert_eq!(rt;
+        letter.bytes.as_bytes(),
+        [2, 0, 0, 0, 1, 0, 2, 13, 0, 0, 0, 1].as_slice()
+    );
     Ok(())
 }

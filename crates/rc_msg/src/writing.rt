@@ -11,17 +11,24 @@ use rc_body::{
     put_report,
 };
 use rc_fields::{put_key, put_party, put_u8, put_u32, put_u64};
-use rc_ids::{Ballot, Blob, DcId, Key, NoMemory, ShardId, TxId, Val, Version};
+use rc_ids::{Ballot, Blob, DcId, Key, NoMemory, Party, ShardId, TxId, Val, Version};
 use std::alloc::Global;
 
 /// The one spelling of a message with its sender and its receiver.
 pub fn encode(alloc: Global, e: &Envelope) -> Result<Blob, NoMemory>
     ensures { IfOk result (λ bytes. bytes ≡ envelope_bytes e.now) }
 {
+    spelled(alloc, &e.from, &e.to, &e.msg)
+}
+
+/// The one spelling of a message from one party to another.
+pub(crate) fn spelled(alloc: Global, from: &Party, to: &Party, msg: &Msg) -> Result<Blob, NoMemory>
+    ensures { IfOk result (λ bytes. bytes ≡ envelope_bytes (record { from = from.now; to = to.now; msg = msg.now })) }
+{
     let mut out = Blob::new(alloc);
-    put_party(&mut out, &e.from)?;
-    put_party(&mut out, &e.to)?;
-    put_msg(&mut out, &e.msg)?;
+    put_party(&mut out, from)?;
+    put_party(&mut out, to)?;
+    put_msg(&mut out, msg)?;
     Ok(out)
 }
 

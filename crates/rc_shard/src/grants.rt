@@ -3,7 +3,7 @@ ghost use Rattle.std.specs.Prelude.{◌≡◌, [], ◌∷◌, ◌++◌, OnOk};
 ghost use Rattle.rc_protocol.specs.Shard.{grant_of};
 
 use rc_ids::{DcId, Key, NoMemory, Party, TxId};
-use rc_msg::{Msg, Outbox};
+use rc_msg::{Messages, Msg};
 use rc_record::Rows;
 
 /// Tells the client that reads the key what this datacentre has there.
@@ -11,7 +11,7 @@ pub fn send_grant(
     dc: DcId,
     rows: &Rows,
     mark: &(Key, TxId),
-    out: &mut Outbox,
+    out: &mut Messages,
 ) -> Result<(), NoMemory>
     ensures { OnOk result (out.new ≡ out.old ++ grant_of dc rows.now mark.now ∷ []) }
 {

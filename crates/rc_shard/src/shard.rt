@@ -20,7 +20,7 @@ use crate::shown::show_rows;
 use crate::volatile::Volatile;
 use rc_body::{Body, Decision, Page, Reason};
 use rc_ids::{Cluster, DcId, Key, NoMemory, NodeId, Party, ShardId, TxId};
-use rc_msg::{Msg, Outbox};
+use rc_msg::{Messages, Msg};
 use rc_record::Record;
 use rc_report::{Line, Lines};
 use std::alloc::Global;
@@ -55,7 +55,7 @@ fn answer(
     shard: ShardId,
     tx: TxId,
     reason: Option<Reason>,
-    out: &mut Outbox,
+    out: &mut Messages,
 ) -> Result<(), NoMemory>
     ensures { OnOk result (out.new ≡ out.old ++ answers dc shard tx reason) }
 {
@@ -66,7 +66,7 @@ fn answer(
 }
 
 /// Asks for the page after a full one, which began at the place and ended at the next one.
-fn ask_next(dc: DcId, place: u32, page: &Page, out: &mut Outbox) -> Result<(), NoMemory>
+fn ask_next(dc: DcId, place: u32, page: &Page, out: &mut Messages) -> Result<(), NoMemory>
     requires { place + length page.now < 2 ^ 32 }
     ensures { OnOk result (out.new ≡ out.old ++ asks_next dc place page.now) }
 {
@@ -148,7 +148,7 @@ impl Shard {
         dc: DcId,
         shard: ShardId,
         msg: &Msg,
-        out: &mut Outbox,
+        out: &mut Messages,
     ) -> Result<(), NoMemory>
         ensures { let act = shard_row cluster.now dc shard self.old.durable self.old.volatile msg.now in
             OnOk result ((self.new ≡ shard_after self.old act) × (out.new ≡ out.old ++ act.sends)) }
@@ -164,7 +164,7 @@ impl Shard {
         dc: DcId,
         shard: ShardId,
         msg: &Msg,
-        out: &mut Outbox,
+        out: &mut Messages,
     ) -> Result<(), NoMemory>
         ensures { let act = shard_row cluster.now dc shard self.old.durable self.old.volatile msg.now in
             OnOk result (HasActed self.old self.new out.old out.new act) }
@@ -207,7 +207,7 @@ impl Shard {
     }
 
     /// The row of a read: it is granted, or waits.
-    fn read_ask(&mut self, dc: DcId, mark: (Key, TxId), out: &mut Outbox) -> Result<(), NoMemory>
+    fn read_ask(&mut self, dc: DcId, mark: (Key, TxId), out: &mut Messages) -> Result<(), NoMemory>
         ensures { let act = on_read_ask dc self.old.durable self.old.volatile mark.1 mark.0 in
             OnOk result (HasActed self.old self.new out.old out.new act) }
     {
@@ -236,7 +236,7 @@ impl Shard {
         shard: ShardId,
         tx: TxId,
         part: &Body,
-        out: &mut Outbox,
+        out: &mut Messages,
     ) -> Result<(), NoMemory>
         ensures { let act = on_prepare dc shard self.old.durable self.old.volatile tx part.now in
             OnOk result (HasActed self.old self.new out.old out.new act) }
@@ -262,7 +262,7 @@ impl Shard {
         dc: DcId,
         tx: TxId,
         decision: &Decision,
-        out: &mut Outbox,
+        out: &mut Messages,
     ) -> Result<(), NoMemory>
         ensures { let act = on_finish dc self.old.durable self.old.volatile tx decision.now in
             OnOk result (HasActed self.old self.new out.old out.new act) }
@@ -275,7 +275,7 @@ impl Shard {
     }
 
     /// Keeps the outcomes of the page, and grants the reads that waited for its keys.
-    fn settle(&mut self, dc: DcId, page: Page, out: &mut Outbox) -> Result<(), NoMemory>
+    fn settle(&mut self, dc: DcId, page: Page, out: &mut Messages) -> Result<(), NoMemory>
         ensures { OnOk result (HasActed self.old self.new out.old out.new (finishes dc self.old.durable self.old.volatile page)) }
     {
         self.volatile.forget_all(&page);
@@ -285,7 +285,7 @@ impl Shard {
     }
 
     /// Keeps the outcomes of the page, if there are any.
-    fn take_page(&mut self, dc: DcId, page: Page, out: &mut Outbox) -> Result<(), NoMemory>
+    fn take_page(&mut self, dc: DcId, page: Page, out: &mut Messages) -> Result<(), NoMemory>
         ensures { OnOk result (HasActed self.old self.new out.old out.new (takes_page dc self.old.durable self.old.volatile page)) }
     {
         if page.is_empty() {
@@ -328,7 +328,7 @@ impl Shard {
         shard: ShardId,
         place: u32,
         page: &Page,
-        out: &mut Outbox,
+        out: &mut Messages,
     ) -> Result<(), NoMemory>
         ensures { let act = on_catch_page cluster.now dc shard self.old.durable self.old.volatile place page.now in
             OnOk result (HasActed self.old self.new out.old out.new act) }
@@ -343,7 +343,7 @@ impl Shard {
     }
 
     /// Asks the coordinator for the outcomes that come after those that were caught up with.
-    pub fn catch(&self, dc: DcId, out: &mut Outbox) -> Result<(), NoMemory>
+    pub fn catch(&self, dc: DcId, out: &mut Messages) -> Result<(), NoMemory>
         ensures { OnOk result (out.new ≡ out.old ++ (do_catch dc self.now.volatile).sends) }
     {
         self.volatile.send_catch(dc, out)

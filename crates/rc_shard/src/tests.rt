@@ -2,7 +2,7 @@
 use crate::Shard;
 use rc_body::{Body, Decision, Entry, Page, Reason};
 use rc_ids::{Cluster, DcId, Key, ShardId, TxId, Val, Version};
-use rc_msg::{Msg, Outbox};
+use rc_msg::{Messages, Msg};
 use rc_report::Lines;
 use std::alloc::Global;
 use std::test::Fail;
@@ -78,7 +78,7 @@ fn one_shard(alloc: Global) -> Result<Cluster, Fail> {
     Ok(Cluster::new(1, 1, Vec::new(alloc))?)
 }
 
-fn first_said(out: Outbox) -> Option<Said> {
+fn first_said(out: Messages) -> Option<Said> {
     let sends = out.into_sends();
     sends.first().map(|send| summary(&send.1))
 }
@@ -89,7 +89,7 @@ fn answer(
     shard: &mut Shard,
     msg: &Msg,
 ) -> Result<Option<Said>, Fail> {
-    let mut out = Outbox::new(alloc);
+    let mut out = Messages::new(alloc);
     shard.handle(alloc, cluster, DcId(1), ShardId(1), msg, &mut out)?;
     Ok(first_said(out))
 }
@@ -133,7 +133,7 @@ fn page(alloc: Global) -> Result<Page, Fail> {
 }
 
 fn asked(alloc: Global, shard: &Shard) -> Result<Option<Said>, Fail> {
-    let mut out = Outbox::new(alloc);
+    let mut out = Messages::new(alloc);
     shard.catch(DcId(1), &mut out)?;
     Ok(first_said(out))
 }

@@ -7,7 +7,7 @@ use crate::marks::Marks;
 use crate::waiting::Waiting;
 use rc_body::{Body, Page};
 use rc_ids::{DcId, Key, NoMemory, NodeId, Party, TxId};
-use rc_msg::{Msg, Outbox};
+use rc_msg::{Messages, Msg};
 use rc_record::ShardDurable;
 use std::alloc::Global;
 use std::marker::Model;
@@ -109,7 +109,7 @@ impl Volatile {
     }
 
     /// Asks the coordinator for the outcomes from the place on.
-    pub fn send_catch(&self, dc: DcId, out: &mut Outbox) -> Result<(), NoMemory>
+    pub fn send_catch(&self, dc: DcId, out: &mut Messages) -> Result<(), NoMemory>
         ensures { OnOk result (out.new ≡ out.old ++ (do_catch dc self.now).sends) }
     {
         out.push(Party::Node(NodeId::Coord(dc)), &Msg::CatchAsk(self.place))
@@ -131,7 +131,7 @@ impl Volatile {
         &self,
         dc: DcId,
         durable: &ShardDurable,
-        out: &mut Outbox,
+        out: &mut Messages,
     ) -> Result<(), NoMemory>
         ensures { OnOk result (out.new ≡ out.old ++ grants dc durable.now self.now) }
     {

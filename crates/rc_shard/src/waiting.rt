@@ -6,7 +6,7 @@ ghost use Rattle.rc_protocol.specs.Shard.{Mark, mark_cmp, cleared, is_other, is_
 use crate::grants::send_grant;
 use crate::parts::is_free;
 use rc_ids::{DcId, Key, NoMemory, TxId};
-use rc_msg::Outbox;
+use rc_msg::Messages;
 use rc_record::{PreparedParts, ShardDurable};
 use std::alloc::Global;
 use std::marker::Model;
@@ -77,7 +77,7 @@ impl Waiting {
         &self,
         dc: DcId,
         durable: &ShardDurable,
-        out: &mut Outbox,
+        out: &mut Messages,
     ) -> Result<(), NoMemory>
         ensures { OnOk result (out.new ≡ out.old ++ map (grant_of dc durable.now.rows) (filter (is_free_lem durable.now.parts) self.now)) }
     {

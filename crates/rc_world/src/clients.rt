@@ -12,7 +12,7 @@ use crate::fault::ActFault;
 use crate::network::message;
 use rc_client::Client;
 use rc_ids::{Cluster, TxId};
-use rc_msg::{Envelope, Outbox};
+use rc_msg::{Envelope, Messages};
 use rc_protocol::Event;
 use rc_report::Lines;
 use std::alloc::Global;
@@ -25,7 +25,7 @@ fn client_act(
     tx: TxId,
     sent: &[Envelope],
     event: &Event,
-    out: &mut Outbox,
+    out: &mut Messages,
     lines: &mut Lines,
 ) -> Result<(), ActFault>
     requires { May event.now client.old }
@@ -58,7 +58,7 @@ pub(crate) fn client_acts(
     sent: &[Envelope],
     event: &Event,
     lines: &mut Lines,
-) -> Result<Outbox, ActFault>
+) -> Result<Messages, ActFault>
     requires { (x : ClientState) → found nat_cmp clients.old.entries tx ≡ Some x → May event.now x }
     ensures outside { IfOk result (λ out. found nat_cmp clients.old.entries tx ≡ None → (clients.new.entries ≡ clients.old.entries) × (out ≡ []) × (lines.new ≡ lines.old)) }
     ensures done { IfOk result (λ out. (x : ClientState) → found nat_cmp clients.old.entries tx ≡ Some x →
@@ -67,7 +67,7 @@ pub(crate) fn client_acts(
     ensures worn { IfErr result (λ e. (x : ClientState) → found nat_cmp clients.old.entries tx ≡ Some x → Wears e (client_act_lem cluster.now tx sent.now event.now x)) }
     ensures outside_refused { IfErr result (λ e. found nat_cmp clients.old.entries tx ≡ None → e ≡ OutOfMemory) }
 {
-    let mut out = Outbox::new(alloc);
+    let mut out = Messages::new(alloc);
     if let Some(client) = clients.get_mut(&tx) {
         client_act(client, cluster, tx, sent, event, &mut out, lines)?;
     }

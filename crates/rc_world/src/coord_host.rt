@@ -16,7 +16,7 @@ use crate::lengths::record_len;
 use crate::network::message;
 use rc_coord::{Coord, CoordFault};
 use rc_ids::{Ballot, Cluster, DcId, NoMemory, Outcome, TxId};
-use rc_msg::{Envelope, Outbox};
+use rc_msg::{Envelope, Messages};
 use rc_protocol::Event;
 use rc_record::Record;
 use std::alloc::Global;
@@ -48,7 +48,7 @@ fn coord_act(
     dc: DcId,
     sent: &[Envelope],
     event: &Event,
-    out: &mut Outbox,
+    out: &mut Messages,
 ) -> Result<(), CoordFault>
     requires { IsTrue (is_dc cluster.now dc) }
     ensures done { OnOk result (Handled (coord_act_lem cluster.now dc sent.now event.now coord.old) coord.old coord.new out.old out.new) }
@@ -102,7 +102,7 @@ fn act(
     dc: DcId,
     sent: &[Envelope],
     event: &Event,
-    out: &mut Outbox,
+    out: &mut Messages,
 ) -> Result<Course, CoordFault>
     requires { IsTrue (is_dc cluster.now dc) }
     ensures went { IfOk result (λ course. CoordWent (coord_act_lem cluster.now dc sent.now event.now coord.old)
@@ -137,7 +137,7 @@ impl CoordHost {
         dc: DcId,
         sent: &[Envelope],
         event: &Event,
-        out: &mut Outbox,
+        out: &mut Messages,
     ) -> Result<Course, CoordFault>
         requires { IsTrue (is_dc cluster.now dc) }
         ensures went { IfOk result (λ course. CoordWent (coord_act_lem cluster.now dc sent.now event.now self.old.node) self.old self.new (protocol_course course)) }
@@ -188,7 +188,7 @@ impl CoordHost {
         &mut self,
         cluster: &Cluster,
         dc: DcId,
-        out: &mut Outbox,
+        out: &mut Messages,
     ) -> Result<(), NoMemory>
         ensures node { OnOk result (self.new.node ≡ coord_started self.old.node.log) }
         ensures device { OnOk result (opened_once self.old.device ≡ Some self.new.device) }

@@ -13,7 +13,7 @@ use crate::fault::ActFault;
 use crate::order::note_written;
 use rc_body::Body;
 use rc_ids::{Cluster, DcId, NoMemory, NodeId, TxId};
-use rc_msg::{Envelope, Outbox};
+use rc_msg::{Envelope, Messages};
 use rc_protocol::Event;
 use rc_report::{Line, Lines};
 use std::alloc::Global;
@@ -27,18 +27,18 @@ fn act_at(
     sent: &[Envelope],
     event: &Event,
     lines: &mut Lines,
-) -> Result<Outbox, ActFault>
+) -> Result<Messages, ActFault>
     requires { IsTrue (is_dc cluster.now dc) }
     ensures done { IfOk result (λ out. CoordDone cluster.now dc (coord_act cluster.now dc sent.now event.now host.old.node) host.old host.new out lines.old lines.new) }
     ensures lacking { IfErr result (λ e. Lacking e (coord_act cluster.now dc sent.now event.now host.old.node)) }
 {
-    let mut out = Outbox::new(alloc);
+    let mut out = Messages::new(alloc);
     let course = host.act(alloc, cluster, dc, sent, event, &mut out)?;
     match course {
         Course::Goes => Ok(out),
         Course::Stops(_) => {
             lines.push(Line::Stopped(NodeId::Coord(dc)))?;
-            Ok(Outbox::new(alloc))
+            Ok(Messages::new(alloc))
         }
     }
 }
@@ -53,7 +53,7 @@ pub(crate) fn coord_acts(
     sent: &[Envelope],
     event: &Event,
     lines: &mut Lines,
-) -> Result<Outbox, ActFault>
+) -> Result<Messages, ActFault>
     requires dc { IsTrue (is_dc cluster.now dc) }
     requires inside { coord_place dc < length coords.old.items }
     ensures length { length coords.new.items ≡ length coords.old.items }
@@ -66,7 +66,7 @@ pub(crate) fn coord_acts(
 {
     let place = dc.0 as usize - 1;
     if !coords[place].is_up() {
-        return Ok(Outbox::new(alloc));
+        return Ok(Messages::new(alloc));
     }
     let before = coords[place].log_len();
     let out = act_at(&mut coords[place], alloc, cluster, dc, sent, event, lines)?;
@@ -107,13 +107,13 @@ pub(crate) fn coord_starts(
     alloc: Global,
     cluster: &Cluster,
     dc: DcId,
-) -> Result<Outbox, NoMemory>
+) -> Result<Messages, NoMemory>
     requires { coord_place dc < length coords.old.items }
     ensures length { length coords.new.items ≡ length coords.old.items }
     ensures started { IfOk result (λ out. (h : CoordSite) → slice_get coords.old.items (coord_place dc) ≡ Some h
         → CoordStarts cluster.now dc h coords.old.items coords.new.items out) }
 {
-    let mut out = Outbox::new(alloc);
+    let mut out = Messages::new(alloc);
     coords[dc.0 as usize - 1].restart(cluster, dc, &mut out)?;
     Ok(out)
 }

@@ -7,7 +7,7 @@ ghost use Rattle.rc_world.specs.Networks.{new_network, passed, numbers_of, poste
 
 use crate::disk::counted;
 use rc_ids::{NoMemory, NodeId, Party};
-use rc_msg::{Envelope, Outbox, encode};
+use rc_msg::{Envelope, Messages, encode};
 use rc_protocol::Event;
 use rc_report::Which;
 use std::alloc::Global;
@@ -32,7 +32,11 @@ pub(crate) fn same_party(party: &Party) -> Party
 }
 
 /// The messages with their sender.
-pub(crate) fn addressed(alloc: Global, from: &Party, out: Outbox) -> Result<Vec<Envelope>, NoMemory>
+pub(crate) fn addressed(
+    alloc: Global,
+    from: &Party,
+    out: Messages,
+) -> Result<Vec<Envelope>, NoMemory>
     ensures { IfOk result (λ letters. letters.items ≡ envelopes from.now out) }
 {
     let mut letters = Vec::new(alloc);

@@ -32,7 +32,7 @@ use crate::starts::{new_coords, new_shards};
 use rc_body::Body;
 use rc_client::{Client, Phase};
 use rc_ids::{Cluster, DcId, Key, NoMemory, NodeId, Party, ShardId, TxId};
-use rc_msg::{Envelope, Outbox};
+use rc_msg::{Envelope, Messages};
 use rc_protocol::Event;
 use rc_report::{Lines, Wrong};
 use std::alloc::Global;
@@ -88,13 +88,13 @@ impl Parties {
         sent: &[Envelope],
         event: &Event,
         lines: &mut Lines,
-    ) -> Result<Outbox, ActFault>
+    ) -> Result<Messages, ActFault>
         ensures done { IfOk result (λ out. let deed = coord_does self.old.parties dc (coord_act self.old.parties.layout dc sent.now event.now) in
             Acted deed (deed_work self.old deed) self.old self.new out lines.old lines.new) }
         ensures refused { IfErr result (λ e. Refuses e (coord_does self.old.parties dc (coord_act self.old.parties.layout dc sent.now event.now))) }
     {
         if dc.0 as usize - 1 >= self.coords.len() {
-            return Ok(Outbox::new(alloc));
+            return Ok(Messages::new(alloc));
         }
         coord_acts(
             &mut self.coords,
@@ -117,17 +117,17 @@ impl Parties {
         sent: &[Envelope],
         event: &Event,
         lines: &mut Lines,
-    ) -> Result<Outbox, NoMemory>
+    ) -> Result<Messages, NoMemory>
         ensures { IfOk result (λ out. let deed = shard_does self.old.parties dc shard (shard_act self.old.parties.layout dc shard sent.now event.now) in
             Acted deed (deed_work self.old deed) self.old self.new out lines.old lines.new) }
     {
         let shards = self.cluster.shards();
         if shard.0 > shards {
-            return Ok(Outbox::new(alloc));
+            return Ok(Messages::new(alloc));
         }
         let place = (dc.0 as usize - 1) * shards as usize + (shard.0 as usize - 1);
         if place >= self.shards.len() {
-            return Ok(Outbox::new(alloc));
+            return Ok(Messages::new(alloc));
         }
         shard_acts(
             &mut self.shards,
@@ -150,7 +150,7 @@ impl Parties {
         sent: &[Envelope],
         event: &Event,
         lines: &mut Lines,
-    ) -> Result<Outbox, ActFault>
+    ) -> Result<Messages, ActFault>
         requires { (x : ClientState) → found nat_cmp self.old.parties.clients tx ≡ Some x → May event.now x }
         ensures done { IfOk result (λ out. let deed = client_does self.old.parties tx (client_act self.old.parties.layout tx sent.now event.now) in
             Acted deed (deed_work self.old deed) self.old self.new out lines.old lines.new) }
@@ -177,7 +177,7 @@ impl Parties {
         sent: &[Envelope],
         event: &Event,
         lines: &mut Lines,
-    ) -> Result<Outbox, ActFault>
+    ) -> Result<Messages, ActFault>
         requires { MayAct self.old.parties party.now event.now }
         ensures done { IfOk result (λ out. let deed = does_by self.old.parties sent.now event.now party.now in
             Acted deed (deed_work self.old deed) self.old self.new out lines.old lines.new) }
@@ -332,33 +332,38 @@ impl Parties {
 
 impl Parties {
     /// A coordinator starts from its log, and begins to catch up. Outside the world nobody does.
-    fn restart_coord(&mut self, alloc: Global, dc: DcId) -> Result<Outbox, NoMemory>
+    fn restart_coord(&mut self, alloc: Global, dc: DcId) -> Result<Messages, NoMemory>
         ensures { IfOk result (λ out. Acted (restarts self.old.parties (CoordName dc)) (start_work self.old (CoordName dc)) self.old self.new out [] []) }
     {
         if dc.0 as usize - 1 >= self.coords.len() {
-            return Ok(Outbox::new(alloc));
+            return Ok(Messages::new(alloc));
         }
         coord_starts(&mut self.coords, alloc, &self.cluster, dc)
     }
 
     /// A shard server starts from its log, and begins to catch up. Outside the world nobody does; where its place is that
     /// of another shard server, the log of that one is opened.
-    fn restart_shard(&mut self, alloc: Global, dc: DcId, shard: ShardId) -> Result<Outbox, NoMemory>
+    fn restart_shard(
+        &mut self,
+        alloc: Global,
+        dc: DcId,
+        shard: ShardId,
+    ) -> Result<Messages, NoMemory>
         ensures { IfOk result (λ out. Acted (restarts self.old.parties (ShardName dc shard)) (start_work self.old (ShardName dc shard)) self.old self.new out [] []) }
     {
         let place = place_of(&self.cluster, dc, shard);
         if place >= self.shards.len() {
-            return Ok(Outbox::new(alloc));
+            return Ok(Messages::new(alloc));
         }
         if shard.0 > self.cluster.shards() {
             shard_opens(&mut self.shards, place)?;
-            return Ok(Outbox::new(alloc));
+            return Ok(Messages::new(alloc));
         }
         shard_starts(&mut self.shards, place, alloc, dc)
     }
 
     /// A node starts from its log, and begins to catch up.
-    pub(crate) fn restart(&mut self, alloc: Global, node: &NodeId) -> Result<Outbox, NoMemory>
+    pub(crate) fn restart(&mut self, alloc: Global, node: &NodeId) -> Result<Messages, NoMemory>
         ensures { IfOk result (λ out. Acted (restarts self.old.parties node.now) (start_work self.old node.now) self.old self.new out [] []) }
     {
         match node {

@@ -13,7 +13,7 @@ use crate::disk::{Course, Disk};
 use crate::lengths::record_len;
 use crate::network::message;
 use rc_ids::{Cluster, DcId, NoMemory, ShardId};
-use rc_msg::{Envelope, Outbox};
+use rc_msg::{Envelope, Messages};
 use rc_protocol::Event;
 use rc_report::Lines;
 use rc_shard::Shard;
@@ -47,7 +47,7 @@ fn shard_act(
     shard: ShardId,
     sent: &[Envelope],
     event: &Event,
-    out: &mut Outbox,
+    out: &mut Messages,
 ) -> Result<(), NoMemory>
     ensures node { OnOk result (node.new ≡ shard_after node.old (shard_act_lem cluster.now dc shard sent.now event.now node.old)) }
     ensures sends { OnOk result (out.new ≡ out.old ++ (shard_act_lem cluster.now dc shard sent.now event.now node.old).sends) }
@@ -97,7 +97,7 @@ fn act(
     shard: ShardId,
     sent: &[Envelope],
     event: &Event,
-    out: &mut Outbox,
+    out: &mut Messages,
 ) -> Result<Course, NoMemory>
     ensures went { IfOk result (λ course. ShardWent (shard_act_lem cluster.now dc shard sent.now event.now node.old)
         (record { node = node.old; device = disk.old }) (record { node = node.new; device = disk.new }) (protocol_course course)) }
@@ -130,7 +130,7 @@ impl ShardHost {
         shard: ShardId,
         sent: &[Envelope],
         event: &Event,
-        out: &mut Outbox,
+        out: &mut Messages,
     ) -> Result<Course, NoMemory>
         ensures went { IfOk result (λ course. ShardWent (shard_act_lem cluster.now dc shard sent.now event.now self.old.node) self.old self.new (protocol_course course)) }
         ensures sends { OnOk result (out.new ≡ out.old ++ (shard_act_lem cluster.now dc shard sent.now event.now self.old.node).sends) }
@@ -175,7 +175,7 @@ impl ShardHost {
     }
 
     /// The shard server starts from its log, and begins to catch up.
-    pub(crate) fn restart(&mut self, dc: DcId, out: &mut Outbox) -> Result<(), NoMemory>
+    pub(crate) fn restart(&mut self, dc: DcId, out: &mut Messages) -> Result<(), NoMemory>
         ensures node { OnOk result (self.new.node ≡ shard_started self.old.node.log) }
         ensures device { OnOk result (opened_once self.old.device ≡ Some self.new.device) }
         ensures sends { OnOk result (out.new ≡ out.old ++ (do_catch dc new_volatile).sends) }

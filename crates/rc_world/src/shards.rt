@@ -8,7 +8,7 @@ ghost use Rattle.rc_report.specs.declared.line.Line.TheVariants.{Stopped as Stop
 use crate::disk::Course;
 use crate::shard_host::ShardHost;
 use rc_ids::{Cluster, DcId, NoMemory, NodeId, ShardId};
-use rc_msg::{Envelope, Outbox};
+use rc_msg::{Envelope, Messages};
 use rc_protocol::Event;
 use rc_report::{Line, Lines};
 use std::alloc::Global;
@@ -23,16 +23,16 @@ fn act_at(
     sent: &[Envelope],
     event: &Event,
     lines: &mut Lines,
-) -> Result<Outbox, NoMemory>
+) -> Result<Messages, NoMemory>
     ensures { IfOk result (λ out. ShardDone dc shard (shard_act cluster.now dc shard sent.now event.now host.old.node) host.old host.new out lines.old lines.new) }
 {
-    let mut out = Outbox::new(alloc);
+    let mut out = Messages::new(alloc);
     let course = host.act(alloc, cluster, dc, shard, sent, event, &mut out)?;
     match course {
         Course::Goes => Ok(out),
         Course::Stops(_) => {
             lines.push(Line::Stopped(NodeId::Shard(dc, shard)))?;
-            Ok(Outbox::new(alloc))
+            Ok(Messages::new(alloc))
         }
     }
 }
@@ -48,7 +48,7 @@ pub(crate) fn shard_acts(
     sent: &[Envelope],
     event: &Event,
     lines: &mut Lines,
-) -> Result<Outbox, NoMemory>
+) -> Result<Messages, NoMemory>
     requires { place < length shards.old.items }
     ensures idle { IfOk result (λ out. (h : ShardSite) → slice_get shards.old.items place ≡ Some h → h.node.up ≡ false
         → ShardIdle shards.old.items shards.new.items out lines.old lines.new) }
@@ -56,7 +56,7 @@ pub(crate) fn shard_acts(
         → ShardDid dc shard place (shard_act cluster.now dc shard sent.now event.now h.node) h shards.old.items shards.new.items out lines.old lines.new) }
 {
     if !shards[place].is_up() {
-        return Ok(Outbox::new(alloc));
+        return Ok(Messages::new(alloc));
     }
     act_at(
         &mut shards[place],
@@ -101,11 +101,11 @@ pub(crate) fn shard_starts(
     place: usize,
     alloc: Global,
     dc: DcId,
-) -> Result<Outbox, NoMemory>
+) -> Result<Messages, NoMemory>
     requires { place < length shards.old.items }
     ensures { IfOk result (λ out. (h : ShardSite) → slice_get shards.old.items place ≡ Some h → ShardStarts dc place h shards.old.items shards.new.items out) }
 {
-    let mut out = Outbox::new(alloc);
+    let mut out = Messages::new(alloc);
     shards[place].restart(dc, &mut out)?;
     Ok(out)
 }

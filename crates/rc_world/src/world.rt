@@ -16,7 +16,7 @@ use crate::fault::{ActFault, LimitFault};
 use crate::network::{Network, addressed, bytes_of, message, same_party};
 use crate::parties::Parties;
 use rc_ids::{NoMemory, NodeId, Party, Text};
-use rc_msg::{Envelope, Outbox};
+use rc_msg::{Envelope, Messages};
 use rc_protocol::Event;
 use rc_report::{Line, Lines, Which, Wrong, render};
 use std::alloc::Global;
@@ -147,14 +147,14 @@ fn stop(
     network: &Network,
     node: &NodeId,
     own: &mut Lines,
-) -> Result<Outbox, ActFault>
+) -> Result<Messages, ActFault>
     requires named { wrong (session_of parties.old network.now 0 0).world (Event.Crash node.now) ≡ None }
     requires own { own.old ≡ [] }
     ensures done { IfOk result (λ out. EventActed parties.old parties.new network.now (Event.Crash node.now) out own.new) }
     ensures refused { IfErr result (λ e. e ≡ OutOfMemory) }
 {
     parties.stop(node, own)?;
-    Ok(Outbox::new(alloc))
+    Ok(Messages::new(alloc))
 }
 
 /// The power of the disk of a node that is up is to be cut at this call from now on.
@@ -166,13 +166,13 @@ fn arm(
     call: u32,
     pick: u8,
     own: &Lines,
-) -> Outbox
+) -> Messages
     requires named { wrong (session_of parties.old network.now 0 0).world (Event.CrashAt node.now call pick) ≡ None }
     requires own { own.now ≡ [] }
     ensures { EventActed parties.old parties.new network.now (Event.CrashAt node.now call pick) result own.now }
 {
     parties.arm(node, call, pick);
-    Outbox::new(alloc)
+    Messages::new(alloc)
 }
 
 /// A node that is not up starts from its log.
@@ -182,7 +182,7 @@ fn restart(
     network: &Network,
     node: &NodeId,
     own: &mut Lines,
-) -> Result<Outbox, ActFault>
+) -> Result<Messages, ActFault>
     requires { own.old ≡ [] }
     ensures done { IfOk result (λ out. EventActed parties.old parties.new network.now (Event.Restart node.now) out own.new) }
     ensures refused { IfErr result (λ e. e ≡ OutOfMemory) }
@@ -199,7 +199,7 @@ fn act(
     event: &Event,
     from: &Party,
     own: &mut Lines,
-) -> Result<Outbox, ActFault>
+) -> Result<Messages, ActFault>
     requires named { wrong (session_of parties.old network.now 0 0).world event.now ≡ None }
     requires from { actor_if_any network.now.sent event.now ≡ Some from.now }
     requires own { own.old ≡ [] }
@@ -212,7 +212,7 @@ fn act(
     match event {
         Event::Begin(tx) => {
             parties.begin(alloc, *tx)?;
-            Ok(Outbox::new(alloc))
+            Ok(Messages::new(alloc))
         }
         Event::Crash(node) => stop(alloc, parties, network, node, own),
         Event::CrashAt { node, k, pick } => {
@@ -242,7 +242,7 @@ fn send(
     network: &mut Network,
     event: &Event,
     from: &Party,
-    out: Outbox,
+    out: Messages,
 ) -> Result<(), LimitFault>
     ensures sent { OnOk result (let letters = envelopes from.now out in
         (too_much network.old (length letters) (bytes_of_lem letters) ≡ None) × (network.new ≡ posted (passed network.old event.now) letters (bytes_of_lem letters))) }

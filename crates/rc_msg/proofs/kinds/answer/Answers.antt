@@ -1,5 +1,5 @@
-use Rattle.std.proofs.Common.{◌≡◌, ℕ, List, Option, None, Some, ap, sym, ◌∙◌}
-use Rattle.rc_fields.specs.Formats.{Reader, ◌>>=◌, tested_at}
+use Rattle.std.proofs.Common.{◌≡◌, ℕ, List, Option, None, Some, ap, ◌∙◌}
+use Rattle.rc_fields.specs.Formats.{◌>>=◌, tested_at}
 use Rattle.rc_fields.specs.Names.{byte_at}
 use Rattle.rc_fields.proofs.Behind.{option_at-nothing, option_at-zero, option_at-one, option_at-other}
 use Rattle.rc_body.specs.declared.reason.Reason.{Reason}

@@ -1,4 +1,4 @@
-use Rattle.std.proofs.Common.{◌≡◌, ℕ, List, Option, Some, None, sym, subst, ◌∙◌}
+use Rattle.std.proofs.Common.{◌≡◌, ℕ, List, Option, Some, sym, subst}
 use Rattle.std.specs.Prelude.{IfOk}
 use Rattle.rc_fields.specs.Formats.{Gives, pick}
 use Rattle.rc_fields.specs.Names.{byte_at}

@@ -62,13 +62,13 @@ impl Standing {
     }
 }
 
-/// The votes of one transaction, at each ballot.
+/// The votes of one transaction, at each ballot. Which datacentres are a quorum is told at each question.
 #[derive(Drop)]
-pub struct Tally {
+pub struct Standings {
     map: BTreeMap<Ballot, Standing>,
 }
 
-impl Model for Tally {
+impl Model for Standings {
     ghost use Rattle.std.specs.Prelude.{ℕ};
     ghost use Rattle.rc_ids.specs.Tables.{Table};
     ghost use Rattle.rc_protocol.specs.Coordinator.{Standing as Votes};
@@ -78,12 +78,12 @@ impl Model for Tally {
     ghost view = { λ t. t.map.entries };
 }
 
-impl Tally {
+impl Standings {
     /// No votes.
-    pub fn new(alloc: Global) -> Tally
+    pub fn new(alloc: Global) -> Standings
         ensures { result ≡ [] }
     {
-        Tally {
+        Standings {
             map: BTreeMap::new(alloc),
         }
     }
