@@ -9,8 +9,6 @@ mod read;
 mod sends;
 mod slot;
 mod slots;
-#[cfg(test)]
-mod tests;
 
 pub use client::Client;
 pub use fault::ClientFault;

@@ -15,8 +15,6 @@ mod rows;
 mod sending;
 mod takeover;
 mod takeovers;
-#[cfg(test)]
-mod tests;
 mod volatile;
 mod votes;
 mod voting;

@@ -10,8 +10,6 @@ mod parts;
 mod reasons;
 mod shard;
 mod shown;
-#[cfg(test)]
-mod tests;
 mod volatile;
 mod waiting;
 

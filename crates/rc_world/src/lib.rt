@@ -15,8 +15,6 @@ mod session;
 mod shard_host;
 mod shards;
 mod starts;
-#[cfg(test)]
-mod tests;
 mod world;
 
 pub use fault::SessionFault;

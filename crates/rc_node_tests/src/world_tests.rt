@@ -1,11 +1,11 @@
 // A world of three datacentres with one shard each, through a few events and commands: the text of what each prints.
 ghost use Rattle.std.specs.Prelude.{◌≡◌, []};
 
-use crate::Session;
 use rc_ids::{Cluster, DcId, Key, NodeId, ShardId, Text, TxId, Val};
 use rc_protocol::Event;
 use rc_report::{Lines, render};
 use rc_script::Command;
+use rc_world::Session;
 use std::alloc::Global;
 use std::test::Fail;
 

@@ -1,6 +1,6 @@
 // A client through its commands: how many messages it sends, and its phases.
-use crate::{Client, Phase};
 use rc_body::Decision;
+use rc_client::{Client, Phase};
 use rc_ids::{Cluster, DcId, Key, TxId, Val, Version};
 use rc_msg::{Messages, Msg};
 use rc_report::Lines;

@@ -1,8 +1,8 @@
 // A coordinator through a few messages: how many messages it sends at each, and how many records its log then has.
 ghost use Rattle.std.specs.Prelude.{◌≡◌, IfOk};
 
-use crate::Coord;
 use rc_body::{Body, Decision, Entry, Page};
+use rc_coord::Coord;
 use rc_ids::{Ballot, Cluster, DcId, Key, Outcome, Party, ShardId, TxId, Val, Version};
 use rc_msg::{Messages, Msg};
 use rc_record::Record;

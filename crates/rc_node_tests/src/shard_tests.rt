@@ -1,9 +1,9 @@
 // A shard server through a few messages, and what it says to each; and one that catches up, stops and starts again.
-use crate::Shard;
 use rc_body::{Body, Decision, Entry, Page, Reason};
 use rc_ids::{Cluster, DcId, Key, ShardId, TxId, Val, Version};
 use rc_msg::{Messages, Msg};
 use rc_report::Lines;
+use rc_shard::Shard;
 use std::alloc::Global;
 use std::test::Fail;
 
