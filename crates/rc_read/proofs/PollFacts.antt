@@ -1,6 +1,7 @@
 -- Grants offered one after the other.
-use Rattle.std.proofs.Common.{◌≡◌, Bool, true, false, cond, List, [], ◌∷◌, ◌++◌, Option, None, Some, refl, sym, ap, ◌∙◌}
-use Rattle.std.proofs.lemmas.List.{append-nil, append_assoc}
+use Rattle.std.proofs.Common.{◌≡◌, ◌+◌, ◌-◌, Bool, true, false, cond, List, [], ◌∷◌, ◌++◌, length, take, Option, None, Some, refl, sym, ap, ◌∙◌, arith}
+use Rattle.std.proofs.lemmas.List.{append-nil, append_assoc, length-append}
+use Rattle.std.proofs.Math.Seq.{take-append_seam}
 use Rattle.rc_ids.specs.Tables.{maybe}
 use Rattle.rc_protocol.specs.Client.{Grant}
 use Rattle.rc_read.specs.declared.state.ReadDone.{ReadDone}
@@ -47,8 +48,14 @@ alone : (o : Option ReadDone) → maybe o None Some ≡ o
 alone None = refl
 alone (Some done) = refl
 
+but_last : (gs : List Grant) (g : Grant) → take (length (gs ++ g ∷ []) - 1) (gs ++ g ∷ []) ≡ gs
+but_last gs g =
+    let count : length (gs ++ g ∷ []) ≡ length gs + 1 = length-append gs (g ∷ []) in
+    let fewer : length (gs ++ g ∷ []) - 1 ≡ length gs = omega (arith, count) in
+    ap (λ n. take n (gs ++ g ∷ [])) fewer ∙ take-append_seam gs (g ∷ [])
+
 pub taken_none : (given : List Grant) (r : Reading) → Taken given r given r None
-taken_none given r = record { grants = []; given = sym (append-nil given); state = refl; gave = refl }
+taken_none given r = record { grants = []; given = sym (append-nil given); state = refl; gave = refl; before = refl }
 
 pub taken_more : (start given next : List Grant) (r now then : Reading) (g : Grant) (o : Option ReadDone) → Taken start r given now None
     → next ≡ given ++ g ∷ [] → then ≡ after_offer now g → o ≡ answer_to now g → Taken start r next then o
@@ -59,11 +66,12 @@ taken_more start given next r now then g o t came stands says = record {
   gave =
       says ∙ ap (λ s. answer_to s g) t.state ∙ sym (alone (answer_to (after_offers r t.grants) g))
       ∙ sym (outcome_later r t.grants (g ∷ []) (sym t.gave));
+  before = ap (outcome r) (but_last t.grants g) ∙ sym t.gave;
 }
 
 -- nothing more was given
 pub taken_same : (start given next : List Grant) (r now : Reading) → Taken start r given now None → next ≡ given → Taken start r next now None
-taken_same start given next r now t is = record { grants = t.grants; given = is ∙ t.given; state = t.state; gave = t.gave }
+taken_same start given next r now t is = record { grants = t.grants; given = is ∙ t.given; state = t.state; gave = t.gave; before = t.before }
 
 pub gives_taken : (start given : List Grant) (r now : Reading) (done : ReadDone) → Taken start r given now (Some done) → Gives r done
 gives_taken start given r now done t = (t.grants, sym t.gave)

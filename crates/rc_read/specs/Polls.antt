@@ -1,5 +1,5 @@
 -- Reads of the grants that an inbox gives.
-use Rattle.std.specs.Prelude.{◌≡◌, ℕ, ◌+◌, ◌^◌, nat_lt, List, [], ◌∷◌, ◌++◌, Option, None, Some, if◌then◌else◌}
+use Rattle.std.specs.Prelude.{◌≡◌, ℕ, ◌+◌, ◌-◌, ◌^◌, nat_lt, List, [], ◌∷◌, ◌++◌, length, take, Option, None, Some, if◌then◌else◌}
 use Rattle.futures.specs.declared.task.Poll.{Poll}
 use Rattle.futures.specs.declared.task.Poll.TheVariants.{Ready, Pending}
 use Rattle.rc_ids.specs.Tables.{maybe}
@@ -29,9 +29,11 @@ abbrev pub polled : Poll ReadDone → Option ReadDone
 polled (Ready done) = Some done
 polled Pending = None
 
--- the grants that the inbox gave meanwhile were offered in their order, and gave this
+-- the grants that the inbox gave meanwhile were offered in their order, and gave this; those before the last of them gave nothing, so
+-- that no grant is taken behind the one that completes the read
 pub record Taken (given_old : List Grant) (old : Reading) (given_new : List Grant) (new : Reading) (answer : Option ReadDone) : Type 0 where
   pub grants : List Grant
   pub given : given_new ≡ given_old ++ grants
   pub state : new ≡ after_offers old grants
   pub gave : answer ≡ outcome old grants
+  pub before : outcome old (take (length grants - 1) grants) ≡ None
