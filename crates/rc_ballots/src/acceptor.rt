@@ -45,7 +45,7 @@ impl Acceptor {
     pub fn may_accept(&self, ballot: Ballot) -> bool
         ensures { result ≡ may_take self.now ballot }
     {
-        self.promise <= ballot
+        ballot >= self.promise
     }
 
     /// Promises the ballot.
@@ -61,7 +61,7 @@ impl Acceptor {
         requires { self.old.promise ≤ ballot }
         ensures { self.new ≡ accepting self.old ballot decision }
     {
-        self.promise = ballot;
+        self.promise(ballot);
         self.accepted = Some((ballot, decision));
     }
 

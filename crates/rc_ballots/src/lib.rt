@@ -2,7 +2,12 @@
 #![tactic(auto)]
 
 mod acceptor;
+mod rows;
 mod standings;
+mod tally;
+#[cfg(test)]
+mod tests;
 
 pub use acceptor::Acceptor;
 pub use standings::{Standing, Standings};
+pub use tally::{Tally, tally_laws};

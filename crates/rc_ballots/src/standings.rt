@@ -1,9 +1,10 @@
 // Votes.
 ghost use Rattle.std.specs.Prelude.{◌≡◌, [], OnOk};
 ghost use Rattle.rc_protocol.specs.Coordinator.{nobody as nobody_lem, stands_for, standing_for, standing_at as standing_at_lem, counted, is_decided_by};
+ghost use Rattle.rc_ballots.specs.Tallies.{voting as voting_lem, voters as voters_lem};
 
 use rc_body::Decision;
-use rc_ids::{Ballot, Cluster, DcId, DcSet, NoMemory};
+use rc_ids::{Ballot, Cluster, DcId, DcSet, NoMemory, Outcome};
 use std::alloc::Global;
 use std::collections::BTreeMap;
 use std::marker::Model;
@@ -26,7 +27,8 @@ impl Model for Standing {
 }
 
 impl Standing {
-    fn nobody() -> Standing
+    /// No votes.
+    pub(crate) fn nobody() -> Standing
         ensures { result ≡ nobody_lem }
     {
         Standing {
@@ -58,6 +60,33 @@ impl Standing {
         match decision {
             Decision::Commit(_) => self.commits,
             Decision::Abort => self.aborts,
+        }
+    }
+
+    /// The standing with one more vote for the outcome.
+    pub(crate) fn voting(self, outcome: Outcome, dc: DcId) -> Standing
+        ensures { result ≡ voting_lem self outcome dc }
+    {
+        let Standing { commits, aborts } = self;
+        match outcome {
+            Outcome::Commit => Standing {
+                commits: commits.with(dc),
+                aborts,
+            },
+            Outcome::Abort => Standing {
+                commits,
+                aborts: aborts.with(dc),
+            },
+        }
+    }
+
+    /// Who voted for the outcome.
+    pub(crate) fn voters_for(&self, outcome: Outcome) -> DcSet
+        ensures { result ≡ voters_lem self.now outcome }
+    {
+        match outcome {
+            Outcome::Commit => self.commits,
+            Outcome::Abort => self.aborts,
         }
     }
 }
