@@ -78,7 +78,7 @@ impl Net {
     }
 
     /// How many messages were sent.
-    pub fn sent(&self) -> u32
+    pub fn count(&self) -> u32
         ensures { result ≡ length self.now.sent }
     {
         self.sent
@@ -110,7 +110,7 @@ impl Net {
     }
 
     /// The message of this number.
-    pub fn message(&self, n: u32) -> Option<Sent<'_>>
+    pub fn sent(&self, n: u32) -> Option<Sent<'_>>
         ensures { option_map shown result ≡ message_lem self.now.sent n }
     {
         if !self.is_sent(n) {
@@ -138,7 +138,7 @@ impl Net {
         Ok(())
     }
 
-    /// Delivers the message, for the first time or again: it is pending no longer. `message` has its bytes, before and after.
+    /// Delivers the message, for the first time or again: it is pending no longer. `sent` has its bytes, before and after.
     pub fn deliver(&mut self, n: u32) -> Result<(), NetFault>
         ensures fault { MatchResult result (λ _. delivery_fault self.old.sent n ≡ None) (λ e. delivery_fault self.old.sent n ≡ Some e) }
         ensures sent { self.new.sent ≡ self.old.sent }

@@ -47,7 +47,7 @@ fn sent(alloc: Global) -> Result<Net, Fail> {
 #[test]
 fn delivers_and_loses(rt: HostRuntime) -> Result<(), Fail> {
     let mut net = sent(rt.alloc())?;
-    assert_eq!(rt; net.sent(), 4);
+    assert_eq!(rt; net.count(), 4);
     assert_eq!(rt; net.oldest(), Some(1));
     net.deliver(2)?;
     net.deliver(2)?;
@@ -58,7 +58,7 @@ fn delivers_and_loses(rt: HostRuntime) -> Result<(), Fail> {
     assert_eq!(rt; net.lose(2), Err(NetFault::NotPending));
     assert_eq!(rt; net.lose(5), Err(NetFault::NoSuchMessage));
     assert_eq!(rt; net.deliver(0), Err(NetFault::NoSuchMessage));
-    let Some(third) = net.message(3) else {
+    let Some(third) = net.sent(3) else {
         return Err(Fail::from("no message"));
     };
     assert_eq!(rt; third.bytes, b"three".as_slice());

@@ -39,6 +39,6 @@ pub fn run(alloc: Global, size: u32) -> anyhow::Result<String> {
         net.deliver(oldest)?;
         delivered += 1;
     }
-    let sent = net.sent();
+    let sent = net.count();
     Ok(format!(in alloc; "{sent} sent, {lost} lost, {delivered} delivered")?)
 }
