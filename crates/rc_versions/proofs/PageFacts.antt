@@ -1,5 +1,5 @@
 -- Rows in pages: where a key is, and what a change of its page makes of them all.
-use Rattle.std.proofs.Common.{◌≡◌, ℕ, zero, suc, ◌-◌, ◌+◌, ◌<◌, ◌≤◌, Bool, true, false, cond, if◌then◌else◌, List, [], ◌∷◌, ◌++◌, length, take, drop, get_or, insert, slice_get, slice_set, Option, Some, None, is_some, nat_lt, refl, sym, ap, subst, ◌∙◌, arith, append-nil, append_assoc, add-one, sub-one}
+use Rattle.std.proofs.Common.{◌≡◌, ℕ, zero, suc, ◌-◌, ◌+◌, ◌<◌, ◌≤◌, Bool, true, false, cond, if◌then◌else◌, List, [], ◌∷◌, ◌++◌, length, take, drop, get_or, insert, slice_set, Option, Some, None, is_some, nat_lt, refl, sym, ap, subst, ◌∙◌, arith, append-nil, append_assoc, add-one}
 use Rattle.std.specs.declared.cmp.Ordering.{Ordering}
 use Rattle.std.specs.declared.cmp.Ordering.TheVariants.{Less, Equal, Greater}
 use Rattle.std.specs.Ordering.{is_eq, is_ge, match_ordering}
@@ -8,9 +8,9 @@ use Rattle.rc_ids.specs.Tables.{found, put, maybe}
 use Rattle.rc_ids.specs.Texts.{key_cmp}
 use Rattle.rc_body.specs.Rows.{Row}
 use Rattle.rc_record.specs.ShardState.{version_at}
-use Rattle.rc_versions.specs.Rows.{AreAbove, Rises, newest, held, rank}
+use Rattle.rc_versions.specs.Rows.{AreAbove, Rises, newest}
 use Rattle.rc_versions.specs.Pages.{all_rows, AreFilled, AreEmpty, IsPaged, AreBelow, IsPageOf, starts_by, reach}
-use Rattle.rc_versions.proofs.RowFacts.{less_trans, greater_back, less_back, equal_left, above_all, Rises-newest, found-rank}
+use Rattle.rc_versions.proofs.RowFacts.{less_trans, greater_back, less_back, equal_left, above_all, Rises-newest}
 
 -- ORDER
 less_ge : (h r k : List ℕ) → key_cmp h r ≡ Less → is_ge (key_cmp k r) ≡ true → key_cmp h k ≡ Less
@@ -189,6 +189,7 @@ below_reach k (suc n) (p ∷ q ∷ ps) rises is =
     inner : (b : Bool) → suc (suc n) ≡ (if b then suc (reach k (q ∷ ps)) else 0) → suc n ≡ reach k (q ∷ ps)
     inner true is = omega arith
     inner false is = absurd (omega arith)
+
     before : (b : Bool) → starts_by k q ≡ b → suc n ≡ (if b then suc (reach k ps) else 0) → AreBelow k p
     before true starts is = below_from k p (q ++ all_rows ps) rises (starts_more q starts)
       where

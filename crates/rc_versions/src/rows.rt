@@ -29,10 +29,7 @@ impl<'a> Model for Rows<'a> {
 }
 
 /// The first row, and what comes after it: the rows that are left at hand, and the pages.
-fn first_row<'a>(
-    rows: &'a [Row],
-    pages: &'a [Page],
-) -> Option<(&'a Row, &'a [Row], &'a [Page])>
+fn first_row<'a>(rows: &'a [Row], pages: &'a [Page]) -> Option<(&'a Row, &'a [Row], &'a [Page])>
     requires { AreFilled pages.now }
     ensures first { MatchOption result (rows.now ++ all_rows pages.now ≡ []) (λ r. rows.now ++ all_rows pages.now ≡ r.0.now ∷ (r.1.now ++ all_rows r.2.now)) }
     ensures filled { MatchOption result (AreFilled pages.now) (λ r. AreFilled r.2.now) }

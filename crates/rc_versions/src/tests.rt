@@ -65,11 +65,26 @@ fn newest_wins(rt: HostRuntime) -> Result<(), Fail> {
     let mut both = Both::new(alloc);
     both.paged.room(2)?;
     both.plain.room(2)?;
-    assert_eq!(rt; apply(alloc, &mut both, b"m", Version(2), b"second")?, (true, true));
-    assert_eq!(rt; apply(alloc, &mut both, b"m", Version(1), b"first")?, (false, false));
-    assert_eq!(rt; apply(alloc, &mut both, b"k", Version(0), b"never")?, (false, false));
-    assert_eq!(rt; apply(alloc, &mut both, b"a", Version(1), b"other")?, (true, true));
-    assert_eq!(rt; apply(alloc, &mut both, b"z", Version(1), b"last")?, (true, true));
+    assert_eq!(rt;
+        apply(alloc, &mut both, b"m", Version(2), b"second")?,
+        (true, true)
+    );
+    assert_eq!(rt;
+        apply(alloc, &mut both, b"m", Version(1), b"first")?,
+        (false, false)
+    );
+    assert_eq!(rt;
+        apply(alloc, &mut both, b"k", Version(0), b"never")?,
+        (false, false)
+    );
+    assert_eq!(rt;
+        apply(alloc, &mut both, b"a", Version(1), b"other")?,
+        (true, true)
+    );
+    assert_eq!(rt;
+        apply(alloc, &mut both, b"z", Version(1), b"last")?,
+        (true, true)
+    );
     assert_eq!(rt; versions(&both, b"m")?, (Version(2), Version(2)));
     assert_eq!(rt; versions(&both, b"k")?, (Version(0), Version(0)));
     let (paged, plain) = values(&both, b"m")?;
@@ -83,7 +98,10 @@ fn numbered(rt: &impl Abort, alloc: Global) -> Result<Both, Fail> {
     let mut both = Both::new(alloc);
     for step in 0..250u32 {
         let key = digits((step * 37 % 250) as u8);
-        assert_eq!(rt; apply(alloc, &mut both, &key, Version(1), &key)?, (true, true));
+        assert_eq!(rt;
+            apply(alloc, &mut both, &key, Version(1), &key)?,
+            (true, true)
+        );
     }
     Ok(both)
 }

@@ -8,6 +8,6 @@ loop-pages-preserved c =
     let before = c.loop-pages.invariant.1 in
     let len = c.in_ok-push.ensures.len in (
       subst AreEmpty (sym c.in_ok-push.ensures.items)
-      (empty_push c.loop-pages.pages.items c.in_ok-page.page c.loop-pages.invariant.0 c.in_ok-page.ensures),
+          (empty_push c.loop-pages.pages.items c.in_ok-page.page c.loop-pages.invariant.0 c.in_ok-page.ensures),
       omega (arith, before, len),
     )

@@ -1,4 +1,4 @@
-use Rattle.std.proofs.Common.{◌≡◌, ◌-◌, ◌<◌, List, [], length, get_or, vec_len, sym, subst, ◌∙◌, arith}
+use Rattle.std.proofs.Common.{◌≡◌, ◌-◌, ◌<◌, List, [], get_or, vec_len, sym, subst, ◌∙◌, arith}
 use Rattle.rc_body.specs.Rows.{Row}
 use Rattle.rc_versions.specs.Pages.{AreEmpty}
 use Rattle.rc_versions.proofs.PageFacts.{empty_take, empty_at}
