@@ -17,16 +17,16 @@ abbrev pub is_below : List ℕ → Row → Bool
 is_below k r = is_gt (key_cmp k r.0)
 
 -- ORDER
-less_trans : (a b c : List ℕ) → key_cmp a b ≡ Less → key_cmp b c ≡ Less → key_cmp a c ≡ Less
+pub less_trans : (a b c : List ℕ) → key_cmp a b ≡ Less → key_cmp b c ≡ Less → key_cmp a c ≡ Less
 less_trans a b c h k = nat_list_cmp_total.trans a b c h k
 
-greater_back : (a b : List ℕ) → key_cmp a b ≡ Greater → key_cmp b a ≡ Less
+pub greater_back : (a b : List ℕ) → key_cmp a b ≡ Greater → key_cmp b a ≡ Less
 greater_back a b h = nat_list_cmp_total.antisymm b a ∙ ap ordering_reverse h
 
-less_back : (a b : List ℕ) → key_cmp a b ≡ Less → key_cmp b a ≡ Greater
+pub less_back : (a b : List ℕ) → key_cmp a b ≡ Less → key_cmp b a ≡ Greater
 less_back a b h = nat_list_cmp_total.antisymm b a ∙ ap ordering_reverse h
 
-equal_left : (a b c : List ℕ) → key_cmp a b ≡ Equal → key_cmp a c ≡ key_cmp b c
+pub equal_left : (a b c : List ℕ) → key_cmp a b ≡ Equal → key_cmp a c ≡ key_cmp b c
 equal_left a b c h = nat_list_cmp_total.congr a b c h
 
 gt_is : (o : Ordering) → is_gt o ≡ true → o ≡ Greater
@@ -186,7 +186,7 @@ held_past k [] i le = refl
 held_past k (x ∷ xs) zero le = absurd (omega arith)
 held_past k (x ∷ xs) (suc i) le = held_past k xs i (omega arith)
 
-none_held : (o : Option (ℕ × List ℕ)) → is_some o ≡ false → o ≡ None
+pub none_held : (o : Option (ℕ × List ℕ)) → is_some o ≡ false → o ≡ None
 none_held None e = refl
 none_held (Some x) e = absurd cc
 
@@ -288,3 +288,11 @@ pub newer_none : (k : List ℕ) (rows : List Row) (i : ℕ) (version : ℕ) → 
     → 0 < version → nat_lt (version_at rows k) version ≡ true
 newer_none k rows i version rises place none lt =
     let zero_there : version_at rows k ≡ 0 = version_none k rows i rises place none in grind arith
+
+-- what stands at the place of a key, of which it is known whether it is there
+pub held_there : (k : List ℕ) (old rows : List Row) (i : ℕ) (b : Bool) → rows ≡ old → Rises old → i ≡ rank k rows → is_some (found key_cmp old k) ≡ b
+    → is_some (held k (slice_get rows i)) ≡ b
+held_there k old rows i b is rises place there =
+    ap (λ (j : ℕ). is_some (held k (slice_get rows j))) place
+    ∙ ap (λ (rs : List Row). is_some (held k (slice_get rs (rank k rs)))) is
+    ∙ sym (ap is_some (found-rank k old rises)) ∙ there

@@ -1,32 +1,38 @@
-// The version and the value of each key.
+// The version and the value of each key, in pages.
 ghost use Rattle.std.specs.Prelude.{◌≡◌, ◌≤◌, ◌+◌, ◌<◌, [], None, OnOk, OnErr, IfOk, IsTrue, nat_lt, length, ◌↔◌, slice_get, Some};
 ghost use Rattle.std.specs.Option.{option_copied};
 ghost use Rattle.rc_ids.specs.Tables.{found, put};
 ghost use Rattle.rc_ids.specs.Texts.{key_cmp};
 ghost use Rattle.rc_record.specs.ShardState.{version_at, value_at};
-ghost use Rattle.rc_versions.specs.Rows.{Rises, newest, rank};
+ghost use Rattle.rc_versions.specs.Rows.{newest};
+ghost use Rattle.rc_versions.specs.Pages.{all_rows, IsPaged};
 
 use crate::Rows;
-use crate::places::{Row, count_below, has_at, insert_at, raise_at, row_of};
+use crate::page::Page;
+use crate::pages::{insert_in, insert_with, is_open, page_of, raise_in, row_at, spare_page};
+use crate::spares::Spares;
 use rc_ids::{Key, NoMemory, Val, Version};
 use std::alloc::Global;
 use std::marker::Model;
 
-/// The version and the value of each key that was ever written, and how many keys more it can take without memory.
+/// The version and the value of each key that was ever written, in pages, and how many calls of `apply` more take no memory.
 #[derive(Drop)]
 pub struct Versions {
-    rows: Vec<Row>,
+    pages: Vec<Page>,
+    spares: Spares,
+    spare: usize,
 }
 
 impl Model for Versions {
-    ghost use Rattle.std.specs.Prelude.{◌-◌, vec_len, vec_capacity};
-    ghost use Rattle.rc_versions.specs.Rows.{VersionMap, Rises};
+    ghost use Rattle.std.specs.Prelude.{vec_capacity};
+    ghost use Rattle.rc_versions.specs.Rows.{VersionMap};
+    ghost use Rattle.rc_versions.specs.Pages.{all_rows, IsKept};
 
     ghost Value = { VersionMap };
 
-    ghost view = { λ v. record { rows = v.rows.items; spare = vec_capacity v.rows - vec_len v.rows } };
+    ghost view = { λ v. record { rows = all_rows v.pages.items; spare = v.spare } };
 
-    ghost invariant = { λ v. Rises v.rows.items };
+    ghost invariant = { λ v. IsKept v.pages.items v.spares v.spare (vec_capacity v.pages) };
 }
 
 impl Versions {
@@ -35,7 +41,9 @@ impl Versions {
         ensures { result.rows ≡ [] }
     {
         Versions {
-            rows: Vec::new(alloc),
+            pages: Vec::new(alloc),
+            spares: Spares::new(alloc),
+            spare: 0,
         }
     }
 
@@ -44,7 +52,8 @@ impl Versions {
         ensures version { result.0 ≡ version_at self.now.rows key.now }
         ensures value { option_copied result.1 ≡ value_at self.now.rows key.now }
     {
-        match row_of(&self.rows, key) {
+        let at = page_of(&self.pages, key);
+        match row_at(&self.pages, at, key) {
             Some(row) => (row.0, Some(&row.1)),
             None => (Version(0), None),
         }
@@ -57,7 +66,9 @@ impl Versions {
         ensures kept { self.old.spare ≤ self.new.spare }
         ensures err { OnErr result (self.new ≡ self.old) }
     {
-        self.rows.reserve(rows)?;
+        self.pages.reserve(rows)?;
+        self.spares.make(rows)?;
+        self.spare = self.spare.max(rows);
         Ok(())
     }
 
@@ -71,15 +82,20 @@ impl Versions {
         ensures full { OnErr result (self.old.spare ≡ 0) }
         ensures absent { OnErr result (found key_cmp self.old.rows key.now ≡ None) }
     {
-        let place = count_below(&self.rows, key);
-        if has_at(&self.rows, place, key) {
-            return Ok(raise_at(&mut self.rows, place, key, version, val));
+        let at = page_of(&self.pages, key);
+        if row_at(&self.pages, at, key).is_some() {
+            return Ok(raise_in(&mut self.pages, at, key, version, val));
         }
         if version == Version(0) {
             return Ok(false);
         }
-        self.rows.reserve(1)?;
-        insert_at(&mut self.rows, place, key, version, val);
+        if is_open(&self.pages, at) {
+            insert_in(&mut self.pages, at, key, version, val);
+            return Ok(true);
+        }
+        let page = spare_page(&mut self.pages, &mut self.spares)?;
+        self.spare = self.spare.saturating_sub(1);
+        insert_with(&mut self.pages, at, page, key, version, val);
         Ok(true)
     }
 
@@ -87,6 +103,6 @@ impl Versions {
     pub fn rows(&self) -> Rows<'_>
         ensures { result ≡ self.now.rows }
     {
-        Rows::new(&self.rows)
+        Rows::new(&[], &self.pages)
     }
 }

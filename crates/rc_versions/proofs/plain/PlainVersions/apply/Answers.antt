@@ -6,7 +6,7 @@ use Rattle.rc_body.specs.Rows.{Row}
 use Rattle.rc_record.specs.ShardState.{version_at}
 use Rattle.rc_versions.specs.Rows.{VersionMap, Rises, newest, rank, held}
 use Rattle.rc_versions.proofs.RowFacts.{found_none}
-use Rattle.rc_versions.proofs.versions.Versions.apply.Goals as goal
+use Rattle.rc_versions.proofs.plain.PlainVersions.apply.Goals as goal
 
 pub invariant_of-self : goal.invariant_of-self
 invariant_of-self c =
