@@ -6,6 +6,7 @@ use Rattle.rc_ids.specs.declared.names.Outcome.{Outcome}
 use Rattle.rc_ids.specs.declared.names.Outcome.TheVariants.{Commit as CommitOutcome, Abort as AbortOutcome}
 use Rattle.rc_body.specs.declared.decision.Decision.{Decision}
 use Rattle.rc_body.specs.declared.decision.Decision.TheVariants.{Commit, Abort}
+use Rattle.rc_body.specs.Decisions.{outcome_of}
 use Rattle.rc_protocol.specs.Coordinator.{Standing, stands_for, standing_for, standing_at, counted, is_decided_by}
 
 -- the weights of the datacentres, the standing at each ballot, and how many ballots more there is memory for
@@ -18,11 +19,6 @@ pub record Tally : Type 0 where
 abbrev pub decision_of : Outcome → Decision
 decision_of CommitOutcome = Commit []
 decision_of AbortOutcome = Abort
-
--- the outcome that a decision has
-abbrev pub outcome_of : Decision → Outcome
-outcome_of (Commit body) = CommitOutcome
-outcome_of Abort = AbortOutcome
 
 -- the standing with one more vote for the outcome, and who stands for it
 abbrev pub voting : Standing → Outcome → ℕ → Standing

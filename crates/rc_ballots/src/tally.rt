@@ -53,13 +53,14 @@ impl Tally {
         }
     }
 
-    /// Makes room, so that the next `add` takes no memory; or leaves all as before.
+    /// Makes room, so that the next `add` takes no memory; or leaves all as before. It wants memory only where there is no room yet.
     pub fn room(&mut self) -> Result<(), NoMemory>
         ensures quorum { self.new.quorum ≡ self.old.quorum }
         ensures votes { self.new.votes ≡ self.old.votes }
         ensures ok { OnOk result (1 ≤ self.new.spare) }
         ensures kept { self.old.spare ≤ self.new.spare }
         ensures err { OnErr result (self.new ≡ self.old) }
+        ensures full { OnErr result (self.old.spare ≡ 0) }
     {
         self.votes.reserve(1)?;
         Ok(())

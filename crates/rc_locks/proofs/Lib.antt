@@ -1,3 +1,4 @@
 -- Lemmas that several proofs share.
 pub mod PlaceFacts
 pub mod Rest
+pub mod RunFacts

@@ -1,3 +1,4 @@
 -- What the contracts of this crate cite.
 pub mod LockSets
 pub mod Places
+pub mod Runs

@@ -7,10 +7,12 @@ mod marks;
 mod parts;
 mod plain;
 mod reasons;
+mod run;
 mod table;
 #[cfg(test)]
 mod tests;
 
 pub use answers::{Answer, Asked, Freed};
 pub use plain::PlainLocks;
+pub use run::{Answers, LockAnswer, LockCall, run_locks};
 pub use table::LockTable;

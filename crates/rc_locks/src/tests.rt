@@ -1,5 +1,5 @@
 // Reads and a write of one key.
-use crate::{Answer, Asked, LockTable, PlainLocks};
+use crate::{Answer, Answers, Asked, LockAnswer, LockCall, LockTable, PlainLocks, run_locks};
 use rc_body::{Body, Entry};
 use rc_ids::{Key, TxId, Val, Version};
 use rc_versions::Versions;
@@ -43,5 +43,50 @@ fn a_write_takes_a_lock_and_gives_it_back(rt: HostRuntime) -> Result<(), Fail> {
     assert!(rt; freed.len() == 1);
     assert!(rt; freed[0].1 == TxId(3));
     assert!(rt; locks.would_ask(TxId(1), &key) == Asked::Ignored);
+    Ok(())
+}
+
+/// What is answered where a transaction reads the key, a second one writes it, a third one asks for it, may take this back, and then the
+/// second one is finished.
+fn answers<L: LockTable>(alloc: Global, is_cancelled: bool) -> Result<Answers, Fail> {
+    let key = Key::new(b"x")?;
+    let mut table = L::new(alloc);
+    let begin = [
+        LockCall::Ask(TxId(1), key.copy()),
+        LockCall::Prepare(TxId(2), write_of(alloc, &key)?),
+        LockCall::Ask(TxId(3), key.copy()),
+    ];
+    let mut answers = run_locks(alloc, &mut table, &begin)?;
+    if is_cancelled {
+        let cancel = [LockCall::Cancel(TxId(3), key.copy())];
+        answers.append(&mut run_locks(alloc, &mut table, &cancel)?)?;
+    }
+    answers.append(&mut run_locks(alloc, &mut table, &[LockCall::Finish(TxId(2))])?)?;
+    Ok(answers)
+}
+
+#[test]
+fn a_read_that_waits_is_granted(rt: HostRuntime) -> Result<(), Fail> {
+    let answers = answers::<PlainLocks>(rt.alloc(), false)?;
+    assert_eq!(rt; answers.len(), 4);
+    assert!(rt; matches!(answers[0], LockAnswer::Asked(Asked::Granted)));
+    assert!(rt; matches!(answers[1], LockAnswer::Tested(Answer::Yes)));
+    assert!(rt; matches!(answers[2], LockAnswer::Asked(Asked::Waits)));
+    let LockAnswer::Finished(freed) = &answers[3] else {
+        return Err("no finish".into());
+    };
+    assert_eq!(rt; freed.len(), 1);
+    assert!(rt; freed[0].0 == Key::new(b"x")?);
+    assert_eq!(rt; freed[0].1, TxId(3));
+    Ok(())
+}
+
+#[test]
+fn a_read_that_was_taken_back_is_not(rt: HostRuntime) -> Result<(), Fail> {
+    let answers = answers::<PlainLocks>(rt.alloc(), true)?;
+    assert_eq!(rt; answers.len(), 5);
+    assert!(rt; matches!(answers[2], LockAnswer::Asked(Asked::Waits)));
+    assert!(rt; matches!(answers[3], LockAnswer::Cancelled));
+    assert!(rt; matches!(&answers[4], LockAnswer::Finished(freed) if freed.is_empty()));
     Ok(())
 }
