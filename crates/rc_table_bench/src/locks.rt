@@ -23,12 +23,12 @@ fn own_key(alloc: Global, tx: u32, place: u32) -> anyhow::Result<Key>
 fn ask<L: LockTable>(alloc: Global, locks: &mut L, txs: u32) -> anyhow::Result<u32>
     requires { txs ≤ 125000 }
 {
-    let mut granted = 0;
+    let mut granted = 0u32;
     for tx in 1..txs + 1 {
         for place in 0..KEYS {
             let asked = locks.ask(TxId(tx), &own_key(alloc, tx, place)?)?;
             if asked == Asked::Granted {
-                granted += 1;
+                granted = granted.saturating_add(1);
             }
         }
     }
@@ -78,10 +78,10 @@ fn prepare_all<L: LockTable>(alloc: Global, locks: &mut L, txs: u32) -> anyhow::
     requires { txs ≤ 125000 }
 {
     let versions = Versions::new(alloc);
-    let mut prepared = 0;
+    let mut prepared = 0u32;
     for tx in 1..txs + 1 {
         if prepare(locks, TxId(tx), part_of(alloc, tx)?, &versions)? {
-            prepared += 1;
+            prepared = prepared.saturating_add(1);
         }
     }
     Ok(prepared)

@@ -28,7 +28,7 @@ pub fn run(alloc: Global, size: u32) -> anyhow::Result<String> {
     let mut lost = 0u32;
     for thousand in 1..size / 1_000 {
         if net.lose(thousand * 1_000).is_ok() {
-            lost += 1;
+            lost = lost.saturating_add(1);
         }
     }
     let mut delivered = 0u32;
@@ -37,7 +37,7 @@ pub fn run(alloc: Global, size: u32) -> anyhow::Result<String> {
             break;
         };
         net.deliver(oldest)?;
-        delivered += 1;
+        delivered = delivered.saturating_add(1);
     }
     let sent = net.count();
     Ok(format!(in alloc; "{sent} sent, {lost} lost, {delivered} delivered")?)

@@ -18,10 +18,13 @@ pub fn run(alloc: Global, size: u32) -> anyhow::Result<String> {
     let mut found = 0u32;
     for number in 0..size {
         let (version, _) = versions.get(&key_of(alloc, number)?);
-        if version == Version(1) && found < u32::MAX {
-            found += 1;
+        if version == Version(1) {
+            found = found.saturating_add(1);
         }
     }
-    let rows = versions.rows().count();
+    let mut rows = 0u32;
+    for _ in versions.rows() {
+        rows = rows.saturating_add(1);
+    }
     Ok(format!(in alloc; "{found} found, {rows} rows")?)
 }
