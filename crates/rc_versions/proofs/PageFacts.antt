@@ -117,10 +117,6 @@ put_some k x (r ∷ rs) = placed (key_cmp k r.0)
     placed Equal = omega arith
     placed Greater = omega arith
 
-pub newest_some : (k : List ℕ) (v : ℕ) (x : List ℕ) (rows : List Row) → nat_lt (version_at rows k) v ≡ true → 0 < length (newest rows k v x)
-newest_some k v x rows newer =
-    subst (λ (b : Bool). 0 < length (if b then put key_cmp rows k (v, x) else rows)) (sym newer) (put_some k (v, x) rows)
-
 pub newest_kept : (k : List ℕ) (v : ℕ) (x : List ℕ) (rows : List Row) → 0 < length rows → 0 < length (newest rows k v x)
 newest_kept k v x rows some = chosen (nat_lt (version_at rows k) v)
   where
@@ -236,10 +232,6 @@ pub found_at : (k : List ℕ) (ps : List (List Row)) (at : ℕ) (d : List Row) �
     → found key_cmp (all_rows ps) k ≡ found key_cmp (get_or ps at d) k
 found_at k ps at d page lt = found_in k ps at d page.below page.above lt
 
-pub none_there : (k : List ℕ) (ps : List (List Row)) (at : ℕ) → IsPageOf k ps at → length ps ≤ at → None ≡ found key_cmp (all_rows ps) k
-none_there k [] at page le = refl
-none_there k (p ∷ ps) at page le = let lt = page.there (omega arith) in absurd (omega (arith, lt))
-
 pub version_in : (k : List ℕ) (ps : List (List Row)) (at : ℕ) (d : List Row) → IsPageOf k ps at → at < length ps
     → version_at (all_rows ps) k ≡ version_at (get_or ps at d) k
 version_in k ps at d page lt = version_of (all_rows ps) (get_or ps at d) k (found_at k ps at d page lt)
@@ -308,23 +300,6 @@ pub paged_split : (k : List ℕ) (v : ℕ) (x : List ℕ) (ps : List (List Row))
     → all_rows (insert (slice_set ps at lo) (at + 1) up) ≡ newest (all_rows ps) k v x → IsPaged (insert (slice_set ps at lo) (at + 1) up)
 paged_split k v x ps at lo up paged lower upper is = record {
   filled = filled_insert (slice_set ps at lo) (at + 1) up (filled_set ps at lo paged.filled lower) upper;
-  rises = subst Rises (sym is) (Rises-newest k v x (all_rows ps) paged.rises);
-}
-
--- THE FIRST PAGE
-pub first_page : (k : List ℕ) (v : ℕ) (x : List ℕ) (ps : List (List Row)) (at : ℕ) (q : List Row) → IsPageOf k ps at → length ps ≤ at
-    → q ≡ newest [] k v x → all_rows (ps ++ q ∷ []) ≡ newest (all_rows ps) k v x
-first_page k v x [] at q page le is = append-nil q ∙ is
-first_page k v x (p ∷ ps) at q page le is = let lt = page.there (omega arith) in absurd (omega (arith, lt))
-
-filled_push : (ps : List (List Row)) (q : List Row) → AreFilled ps → 0 < length q → AreFilled (ps ++ q ∷ [])
-filled_push [] q filled some = (some, tt)
-filled_push (p ∷ ps) q filled some = (filled.0, filled_push ps q filled.1 some)
-
-pub paged_push : (k : List ℕ) (v : ℕ) (x : List ℕ) (ps : List (List Row)) (q : List Row) → IsPaged ps → 0 < length q
-    → all_rows (ps ++ q ∷ []) ≡ newest (all_rows ps) k v x → IsPaged (ps ++ q ∷ [])
-paged_push k v x ps q paged some is = record {
-  filled = filled_push ps q paged.filled some;
   rises = subst Rises (sym is) (Rises-newest k v x (all_rows ps) paged.rises);
 }
 

@@ -1,5 +1,5 @@
 // A page of rows.
-ghost use Rattle.std.specs.Prelude.{◌≡◌, ◌≤◌, ◌<◌, ◌+◌, ◌++◌, ◌↔◌, [], length, nat_lt, true, false, is_some, IfOk, IsTrue, vec_len, vec_capacity};
+ghost use Rattle.std.specs.Prelude.{◌≡◌, ◌≤◌, ◌<◌, ◌+◌, ◌++◌, [], length, nat_lt, true, false, is_some, IfOk, IsTrue, vec_len, vec_capacity};
 ghost use Rattle.std.specs.Option.{option_copied};
 ghost use Rattle.rc_ids.specs.Tables.{found};
 ghost use Rattle.rc_ids.specs.Texts.{key_cmp};

@@ -1,5 +1,5 @@
 // All rows, in the order of their keys.
-ghost use Rattle.std.specs.Prelude.{◌≡◌, ◌++◌, ◌∷◌, [], length, MatchOption};
+ghost use Rattle.std.specs.Prelude.{◌≡◌, ◌++◌, ◌∷◌, [], MatchOption};
 ghost use Rattle.std.specs.Iterator.{YieldsFirstBy, item_count};
 ghost use Rattle.rc_versions.specs.Rows.{row_shown};
 ghost use Rattle.rc_versions.specs.Pages.{all_rows, AreFilled};

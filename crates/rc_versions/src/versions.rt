@@ -1,11 +1,10 @@
 // The version and the value of each key, in pages.
-ghost use Rattle.std.specs.Prelude.{◌≡◌, ◌≤◌, ◌+◌, ◌<◌, [], None, OnOk, OnErr, IfOk, IsTrue, nat_lt, length, ◌↔◌, slice_get, Some};
+ghost use Rattle.std.specs.Prelude.{◌≡◌, ◌≤◌, ◌+◌, [], None, OnOk, OnErr, IfOk, nat_lt};
 ghost use Rattle.std.specs.Option.{option_copied};
-ghost use Rattle.rc_ids.specs.Tables.{found, put};
+ghost use Rattle.rc_ids.specs.Tables.{found};
 ghost use Rattle.rc_ids.specs.Texts.{key_cmp};
 ghost use Rattle.rc_record.specs.ShardState.{version_at, value_at};
 ghost use Rattle.rc_versions.specs.Rows.{newest};
-ghost use Rattle.rc_versions.specs.Pages.{all_rows, IsPaged};
 
 use crate::Rows;
 use crate::page::Page;
