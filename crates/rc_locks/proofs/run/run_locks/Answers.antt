@@ -22,9 +22,11 @@ pub returns-in_err-push-clause-err : goal.returns-in_err-push-clause-err
 returns-in_err-push-clause-err g c =
     let state = g.L.LockTable.state in
     on_err c.from_residual-in_err-push.result
-    ((n : ℕ) × (n ≤ length c.args.calls.now) × (state c.run_call.new.table ≡ (ran (state c.args.table.now) (take n c.args.calls.now)).1))
-    (c.loop-call.call-index + 1, omega (arith, c.loop-call-test.true),
-    after_more _ _ _ c.args.calls.now c.loop-call.call-index c.call-item.result c.loop-call-test.true c.call-item.is c.loop-call.invariant.left c.in_ok-run_call.ensures.ok)
+    ((n : ℕ) × (n ≤ length c.args.calls.now) × (state c.run_call.new.table ≡ (ran (state c.args.table.now) (take n c.args.calls.now)).1)) (
+      c.loop-call.call-index + 1,
+      omega (arith, c.loop-call-test.true),
+      after_more _ _ _ c.args.calls.now c.loop-call.call-index c.call-item.result c.loop-call-test.true c.call-item.is c.loop-call.invariant.left c.in_ok-run_call.ensures.ok,
+    )
 
 pub loop-call-preserved : goal.loop-call-preserved
 loop-call-preserved g c = record {
