@@ -1,3 +1,5 @@
 -- Lemmas that several proofs share.
+pub mod FlagFacts
+pub mod MarkLists
 pub mod PlaceFacts
 pub mod Rest

@@ -1,3 +1,5 @@
 -- What the contracts of this crate cite.
+pub mod Cells
+pub mod Flags
 pub mod LockSets
 pub mod Places

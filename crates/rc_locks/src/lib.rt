@@ -2,7 +2,9 @@
 #![tactic(auto)]
 
 mod answers;
+mod cells;
 mod entries;
+mod flags;
 mod marks;
 mod parts;
 mod plain;
