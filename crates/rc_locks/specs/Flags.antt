@@ -1,5 +1,5 @@
 -- What each transaction has at each key: a plain lock, the mark of a lost one, both or neither.
-use Rattle.std.specs.Prelude.{◌≡◌, ℕ, Bool, true, false, ◌==◌, not, ◌||◌, ◌&&◌, List, [], ◌∷◌, filter, Option, Some, None, is_some, if◌then◌else◌, Vec}
+use Rattle.std.specs.Prelude.{◌≡◌, ℕ, ◌≤◌, Bool, true, false, ◌==◌, not, ◌||◌, ◌&&◌, List, [], ◌∷◌, filter, Option, Some, None, is_some, if◌then◌else◌, Vec, nat_lt}
 use Rattle.std.specs.Global.{Global}
 use Rattle.std.specs.Ordering.{nat_cmp, is_eq}
 use Rattle.std.specs.Map.{keys_of}
@@ -39,6 +39,10 @@ Rises locks = IsStrictlySortedBy mark_cmp (keys_of locks)
 abbrev pub has_place : Table Mark Lock → Mark → Bool
 has_place locks m = is_some (found mark_cmp locks m)
 
+-- each mark is of a transaction, and these are counted from 1
+abbrev pub AreTxs : Table Mark Lock → Type 0
+AreTxs locks = (m : Mark) → has_place locks m ≡ true → 1 ≤ m.1
+
 abbrev pub same_mark : Mark → Mark → Bool
 same_mark a b = is_eq (mark_cmp a b)
 
@@ -67,6 +71,25 @@ is_other_at k t m = not (m.1 == t) && same_key k m.0
 abbrev pub taken_by : ℕ → Mark → List Entry → Lock → Lock
 taken_by t m [] lock = lock
 taken_by t m (e ∷ es) lock = taken_by t m es (turned_where (is_some e.write && is_other_at e.key t m) taken_away lock)
+
+-- the plain locks of t at the keys are taken back in turn
+abbrev pub given_back : ℕ → Mark → List (List ℕ) → Lock → Lock
+given_back t m [] lock = lock
+given_back t m (k ∷ ks) lock = given_back t m ks (turned_where (same_mark (k, t) m) without_plain lock)
+
+-- what t has at the keys goes in turn
+abbrev pub let_go : ℕ → Mark → List (List ℕ) → Option Lock → Option Lock
+let_go t m [] lock = lock
+let_go t m (k ∷ ks) lock = let_go t m ks (if same_mark (k, t) m then None else lock)
+
+-- the transaction stands before the next one; there may be none
+abbrev pub is_before : Option ℕ → ℕ → Bool
+is_before None t = true
+is_before (Some next) t = nat_lt t next
+
+-- a mark of t at one of the keys
+abbrev pub is_one_of : ℕ → List (List ℕ) → Mark → Bool
+is_one_of t ks m = (m.1 == t) && member key_cmp ks m.0
 
 -- THE INDEX FROM TRANSACTIONS TO KEYS
 abbrev pub keys_at : Table ℕ (Vec (List ℕ) Global) → ℕ → List (List ℕ)
