@@ -96,7 +96,7 @@ pub covered_stays : (turn : Mark → Lock → Lock) (old new : Table Mark Lock) 
 covered_stays turn old new index turned covered m here = covered m (sym (places_stay turn old new turned m) ∙ here)
 
 -- A TRANSACTION'S KEYS
-number_test : (t u : ℕ) → (u == t) ≡ is_eq (nat_cmp t u)
+pub number_test : (t u : ℕ) → (u == t) ≡ is_eq (nat_cmp t u)
 number_test t u = grind arith
 
 both_equal : (a b : Ordering) → is_eq (ordering_then a b) ≡ (is_eq a && is_eq b)

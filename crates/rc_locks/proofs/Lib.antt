@@ -1,5 +1,7 @@
 -- Lemmas that several proofs share.
 pub mod FlagFacts
+pub mod IndexFacts
 pub mod MarkLists
 pub mod PlaceFacts
 pub mod Rest
+pub mod TakeFacts

@@ -42,6 +42,13 @@ pub fn lock_of(locks: &Locks, mark: &Mark) -> Lock
     }
 }
 
+/// Whether the mark has a place.
+fn has(locks: &Locks, mark: &Mark) -> bool
+    ensures { result ≡ has_place locks.now.entries mark.now }
+{
+    locks.contains_key(mark)
+}
+
 /// Gives the mark this lock in place of the one that it has.
 fn set(locks: &mut Locks, mark: &Mark, lock: Lock)
     ensures value { (m : MarkLem) → found mark_cmp locks.new.entries m ≡ (if same_mark mark.now m && has_place locks.old.entries m then Some lock else found mark_cmp locks.old.entries m) }
@@ -254,7 +261,7 @@ pub fn make_place(locks: &mut Locks, index: &mut KeyIndex, alloc: Global, mark: 
 {
     let tx = mark.1;
     let _number = tx.0;
-    if locks.get(mark).is_some() {
+    if has(locks, mark) {
         return Ok(());
     }
     note(index, alloc, mark)?;
