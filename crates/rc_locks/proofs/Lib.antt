@@ -1,4 +1,5 @@
 -- Lemmas that several proofs share.
+pub mod CellFacts
 pub mod FlagFacts
 pub mod IndexFacts
 pub mod MarkLists

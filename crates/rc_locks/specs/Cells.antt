@@ -1,9 +1,9 @@
 -- Who holds each key, by the parts that are prepared.
-use Rattle.std.specs.Prelude.{◌≡◌, ℕ, ◌+◌, ◌≤◌, Bool, ◌&&◌, List, [], ◌∷◌, filter, Option, Some, None, is_some, if◌then◌else◌, Vec, vec_len, vec_capacity}
+use Rattle.std.specs.Prelude.{◌≡◌, ℕ, ◌≤◌, ◌==◌, not, Bool, true, List, [], ◌∷◌, filter, Option, Some, None, is_some, if◌then◌else◌, Vec, length, vec_capacity}
 use Rattle.std.specs.Global.{Global}
 use Rattle.std.specs.Ordering.{nat_cmp}
 use Rattle.std.specs.Map.{keys_of}
-use Rattle.rc_ids.specs.Tables.{Table, found, member, added, maybe}
+use Rattle.rc_ids.specs.Tables.{Table, found, added, maybe}
 use Rattle.rc_ids.specs.Texts.{key_cmp, same_key}
 use Rattle.rc_body.specs.Bodies.{has_key, writes}
 use Rattle.rc_body.specs.declared.entry.Entry.{Entry}
@@ -26,9 +26,9 @@ readers_at cells k = maybe (found key_cmp cells k) [] (λ c. c.readers.items)
 abbrev pub IsIndexed : Table ℕ (List Entry) → Table (List ℕ) Holders → Type 0
 IsIndexed parts cells = (k : List ℕ) → (writers_at cells k ≡ writers_of parts k) × (readers_at cells k ≡ readers_of parts k)
 
--- the list takes one more transaction without memory, or has it
+-- the list with the transaction fits without memory
 abbrev pub HasRoom : ℕ → Vec ℕ Global → Type 0
-HasRoom t list = vec_len list + (if member nat_cmp list.items t then 0 else 1) ≤ vec_capacity list
+HasRoom t list = length (added nat_cmp list.items t) ≤ vec_capacity list
 
 abbrev pub HasRooms : ℕ → Option Holders → Type 0
 HasRooms t None = ⊥
@@ -37,3 +37,15 @@ HasRooms t (Some c) = HasRoom t c.writers × HasRoom t c.readers
 -- so do the cells of all keys of the part
 abbrev pub IsRoomFor : ℕ → List Entry → Table (List ℕ) Holders → Type 0
 IsRoomFor t part cells = (k : List ℕ) → has_key k part ≡ true → HasRooms t (found key_cmp cells k)
+
+-- a transaction is added for each entry that passes, and taken out for each
+abbrev pub joins : ℕ → (Entry → Bool) → List Entry → List ℕ → List ℕ
+joins t test [] xs = xs
+joins t test (e ∷ es) xs = joins t test es (if test e then added nat_cmp xs t else xs)
+
+abbrev pub others : ℕ → List ℕ → List ℕ
+others t xs = filter (λ u. not (u == t)) xs
+
+abbrev pub leaves : ℕ → (Entry → Bool) → List Entry → List ℕ → List ℕ
+leaves t test [] xs = xs
+leaves t test (e ∷ es) xs = leaves t test es (if test e then others t xs else xs)

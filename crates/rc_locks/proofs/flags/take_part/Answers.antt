@@ -1,4 +1,4 @@
-use Rattle.std.proofs.Common.{sym, ◌∙◌}
+use Rattle.std.proofs.Common.{sym, ◌∙◌, arith}
 use Rattle.rc_ids.specs.Tables.{found}
 use Rattle.rc_protocol.specs.Shard.{mark_cmp}
 use Rattle.rc_body.specs.Entries.{seen}
@@ -20,4 +20,4 @@ loop-index-preserved c =
 pub returns-clause-turned : goal.returns-clause-turned
 returns-clause-turned c m =
     part_done c.args.taker m c.args.part.now c.loop-index.index (found mark_cmp c.loop-index.locks.entries m) (found mark_cmp c.args.locks.now.entries m)
-    ? (c.loop-index.invariant.2 m)
+    (let ended = c.loop-index-test.false in let count = c.len-index-end.ensures.count in omega arith) (c.loop-index.invariant.2 m)
