@@ -154,3 +154,11 @@ has_at es i e at = any_passes_from_place (λ (f : Entry). same_key f.key e.key) 
 -- keys past the entry: its own, or those of the rest
 pub lacks_next : (es : List Entry) (i : ℕ) (e : Entry) (k : List ℕ) → slice_get es i ≡ Some e → has_key k (drop (i + 1) es) ≡ false → same_key e.key k ≡ false → has_key k (drop i es) ≡ false
 lacks_next es i e k at rest other = ap (has_key k) (rest_at es i e at) ∙ ap (λ b. b || has_key k (drop (i + 1) es)) other ∙ rest
+
+pub same_if : (b : Bool) (xs : List ℕ) → (if b then xs else xs) ≡ xs
+same_if true xs = refl
+same_if false xs = refl
+
+pub either_way : (P : Type 0) (b : Bool) → (b ≡ true → P) → (b ≡ false → P) → P
+either_way P true p q = p refl
+either_way P false p q = q refl
