@@ -71,7 +71,7 @@ module _ {K : Type 0} {R : K → K → Ordering} (o : IsTotalOrder R) where
       placed Equal rest = all
       placed Greater rest = (all.0, rest)
 
-  below_all : (k x : K) (xs : List K) → R k x ≡ Less → AllByRecursion (λ y. R x y ≡ Less) xs → AllByRecursion (λ y. R k y ≡ Less) xs
+  pub below_all : (k x : K) (xs : List K) → R k x ≡ Less → AllByRecursion (λ y. R x y ≡ Less) xs → AllByRecursion (λ y. R k y ≡ Less) xs
   below_all k x [] lt all = tt
   below_all k x (y ∷ ys) lt all = (o.trans k x y lt all.0, below_all k x ys lt all.1)
 
@@ -144,7 +144,7 @@ module _ {K : Type 0} {R : K → K → Ordering} (o : IsTotalOrder R) where
           absurd (gone (is_eq (R y x)) (member R xs y) (member R (y ∷ ys) y) (ap is_eq lt) (none_below y x xs lt s.0) (here y ys) (sym (h y)))
 
 -- THE KEYS OF SOME ENTRIES
-below_kept : {K X : Type 0} (R : K → K → Ordering) (k : K) (p : K × X → Bool) (es : List (K × X)) → AllByRecursion (λ y. R k y ≡ Less) (keys_of es) → AllByRecursion (λ y. R k y ≡ Less) (keys_of (filter p es))
+pub below_kept : {K X : Type 0} (R : K → K → Ordering) (k : K) (p : K × X → Bool) (es : List (K × X)) → AllByRecursion (λ y. R k y ≡ Less) (keys_of es) → AllByRecursion (λ y. R k y ≡ Less) (keys_of (filter p es))
 below_kept R k p [] all = tt
 below_kept R k p (e ∷ es) all = chosen (p e) (below_kept R k p es all.1)
   where

@@ -2,12 +2,17 @@
 use Rattle.std.specs.Prelude.{◌≡◌, ℕ, ◌≤◌, ◌==◌, not, Bool, true, List, [], ◌∷◌, filter, Option, Some, None, is_some, if◌then◌else◌, Vec, length, vec_capacity}
 use Rattle.std.specs.Global.{Global}
 use Rattle.std.specs.Ordering.{nat_cmp}
+use Rattle.std.specs.List.Sorted.{IsStrictlySortedBy}
 use Rattle.std.specs.Map.{keys_of}
 use Rattle.rc_ids.specs.Tables.{Table, found, added, maybe}
 use Rattle.rc_ids.specs.Texts.{key_cmp, same_key}
 use Rattle.rc_body.specs.Bodies.{has_key, writes}
 use Rattle.rc_body.specs.declared.entry.Entry.{Entry}
 use Rattle.rc_locks.specs.declared.cells.Holders.{Holders}
+
+-- the transactions rise
+abbrev pub IsRising : Table ℕ (List Entry) → Type 0
+IsRising parts = IsStrictlySortedBy nat_cmp (keys_of parts)
 
 -- the transactions whose part writes the key, and those whose part has it
 abbrev pub writers_of : Table ℕ (List Entry) → List ℕ → List ℕ

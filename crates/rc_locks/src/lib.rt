@@ -5,6 +5,7 @@ mod answers;
 mod cells;
 mod entries;
 mod flags;
+mod halves;
 mod marks;
 mod parts;
 mod plain;
