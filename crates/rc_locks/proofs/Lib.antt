@@ -3,6 +3,7 @@ pub mod CellFacts
 pub mod FlagFacts
 pub mod IndexFacts
 pub mod MarkLists
+pub mod MoveFacts
 pub mod PartFacts
 pub mod PlaceFacts
 pub mod Rest

@@ -101,3 +101,7 @@ has_key_at index m = member key_cmp (keys_at index m.1) m.0
 -- each mark of the table has its key in the index
 abbrev pub IsCovered : Table Mark Lock → Table ℕ (Vec (List ℕ) Global) → Type 0
 IsCovered locks index = (m : Mark) → has_place locks m ≡ true → has_key_at index m ≡ true
+
+-- each of the marks has a place
+abbrev pub ArePlaced : List Mark → Table Mark Lock → Type 0
+ArePlaced ms locks = (m : Mark) → member mark_cmp ms m ≡ true → has_place locks m ≡ true

@@ -23,13 +23,13 @@ pub struct Lock {
 }
 
 /// What each transaction has at each key.
-pub type Locks = BTreeMap<Mark, Lock>;
+pub type LockMap = BTreeMap<Mark, Lock>;
 
 /// For each transaction the keys at which it may have something.
 pub type KeyIndex = BTreeMap<TxId, Vec<Key>>;
 
 /// What the transaction of the mark has at its key.
-pub fn lock_of(locks: &Locks, mark: &Mark) -> Lock
+pub fn lock_of(locks: &LockMap, mark: &Mark) -> Lock
     ensures plain { result.plain ≡ plain_at locks.now.entries mark.now }
     ensures lost { result.lost ≡ lost_at locks.now.entries mark.now }
 {
@@ -43,14 +43,14 @@ pub fn lock_of(locks: &Locks, mark: &Mark) -> Lock
 }
 
 /// Whether the mark has a place.
-fn has(locks: &Locks, mark: &Mark) -> bool
+fn has(locks: &LockMap, mark: &Mark) -> bool
     ensures { result ≡ has_place locks.now.entries mark.now }
 {
     locks.contains_key(mark)
 }
 
 /// Gives the mark this lock in place of the one that it has.
-fn set(locks: &mut Locks, mark: &Mark, lock: Lock)
+fn set(locks: &mut LockMap, mark: &Mark, lock: Lock)
     ensures value { (m : MarkLem) → found mark_cmp locks.new.entries m ≡ (if same_mark mark.now m && has_place locks.old.entries m then Some lock else found mark_cmp locks.old.entries m) }
     ensures rises { Rises locks.new.entries }
 {
@@ -60,7 +60,7 @@ fn set(locks: &mut Locks, mark: &Mark, lock: Lock)
 }
 
 /// Gives the mark a plain lock, where it has a place.
-pub fn grant(locks: &mut Locks, mark: &Mark)
+pub fn grant(locks: &mut LockMap, mark: &Mark)
     ensures turned { IsTurned (λ m. turned_where (same_mark mark.now m) with_plain) locks.old.entries locks.new.entries }
     ensures rises { Rises locks.new.entries }
 {
@@ -69,7 +69,7 @@ pub fn grant(locks: &mut Locks, mark: &Mark)
 }
 
 /// Takes the plain lock of the mark back.
-pub fn unlock(locks: &mut Locks, mark: &Mark)
+pub fn unlock(locks: &mut LockMap, mark: &Mark)
     ensures turned { IsTurned (λ m. turned_where (same_mark mark.now m) without_plain) locks.old.entries locks.new.entries }
     ensures rises { Rises locks.new.entries }
 {
@@ -78,7 +78,7 @@ pub fn unlock(locks: &mut Locks, mark: &Mark)
 }
 
 /// The plain lock of the mark is lost, where it has one.
-fn take_away(locks: &mut Locks, mark: &Mark)
+fn take_away(locks: &mut LockMap, mark: &Mark)
     ensures turned { IsTurned (λ m. turned_where (same_mark mark.now m) taken_away) locks.old.entries locks.new.entries }
     ensures rises { Rises locks.new.entries }
 {
@@ -88,7 +88,7 @@ fn take_away(locks: &mut Locks, mark: &Mark)
 }
 
 /// The first transaction that has a place at the key.
-fn first_at(locks: &Locks, key: &Key) -> Option<TxId>
+fn first_at(locks: &LockMap, key: &Key) -> Option<TxId>
     requires { AreTxs locks.now.entries }
     ensures { (t : ℕ) → is_before result t ≡ true → has_place locks.now.entries (key.now, t) ≡ false }
 {
@@ -102,7 +102,7 @@ fn first_at(locks: &Locks, key: &Key) -> Option<TxId>
 }
 
 /// The next transaction that has a place at the key.
-fn next_at(locks: &Locks, key: &Key, last: TxId) -> Option<TxId>
+fn next_at(locks: &LockMap, key: &Key, last: TxId) -> Option<TxId>
     ensures above { IfSome result (λ t. last < t) }
     ensures none { (t : ℕ) → last < t → is_before result t ≡ true → has_place locks.now.entries (key.now, t) ≡ false }
 {
@@ -117,7 +117,7 @@ fn next_at(locks: &Locks, key: &Key, last: TxId) -> Option<TxId>
 }
 
 /// Takes the plain lock of the transaction at the key away for another transaction.
-fn take_other(locks: &mut Locks, key: &Key, tx: TxId, taker: TxId)
+fn take_other(locks: &mut LockMap, key: &Key, tx: TxId, taker: TxId)
     requires { Rises locks.old.entries }
     ensures turned { IsTurned (λ m. turned_where (same_mark (key.now, tx) m && not (tx == taker)) taken_away) locks.old.entries locks.new.entries }
     ensures rises { Rises locks.new.entries }
@@ -128,7 +128,7 @@ fn take_other(locks: &mut Locks, key: &Key, tx: TxId, taker: TxId)
 }
 
 /// Takes the plain locks of all others at the key away.
-fn take_key(locks: &mut Locks, key: &Key, taker: TxId)
+fn take_key(locks: &mut LockMap, key: &Key, taker: TxId)
     requires rises { Rises locks.old.entries }
     requires txs { AreTxs locks.old.entries }
     ensures turned { IsTurned (λ m. turned_where (is_other_at key.now taker m) taken_away) locks.old.entries locks.new.entries }
@@ -142,7 +142,7 @@ fn take_key(locks: &mut Locks, key: &Key, taker: TxId)
 }
 
 /// Takes the plain locks of all others at the key away, if it is written.
-fn take_written(locks: &mut Locks, key: &Key, written: bool, taker: TxId)
+fn take_written(locks: &mut LockMap, key: &Key, written: bool, taker: TxId)
     requires rises { Rises locks.old.entries }
     requires txs { AreTxs locks.old.entries }
     ensures turned { IsTurned (λ m. turned_where (written && is_other_at key.now taker m) taken_away) locks.old.entries locks.new.entries }
@@ -154,7 +154,7 @@ fn take_written(locks: &mut Locks, key: &Key, written: bool, taker: TxId)
 }
 
 /// Takes the plain locks of all others at the keys that the part writes away.
-pub fn take_part(locks: &mut Locks, taker: TxId, part: &Body)
+pub fn take_part(locks: &mut LockMap, taker: TxId, part: &Body)
     requires rises { Rises locks.old.entries }
     requires txs { AreTxs locks.old.entries }
     ensures turned { IsTurned (λ m. turned_where (is_taken taker part.now m) taken_away) locks.old.entries locks.new.entries }
@@ -167,7 +167,7 @@ pub fn take_part(locks: &mut Locks, taker: TxId, part: &Body)
 }
 
 /// Takes the plain locks of the transaction at these keys back.
-fn unlock_all(locks: &mut Locks, keys: &[Key], tx: TxId)
+fn unlock_all(locks: &mut LockMap, keys: &[Key], tx: TxId)
     requires { Rises locks.old.entries }
     ensures turned { IsTurned (λ m. turned_where (is_one_of tx keys.now m) without_plain) locks.old.entries locks.new.entries }
     ensures rises { Rises locks.new.entries }
@@ -178,7 +178,7 @@ fn unlock_all(locks: &mut Locks, keys: &[Key], tx: TxId)
 }
 
 /// Takes what the transaction has at these keys out of the table.
-fn remove_all(locks: &mut Locks, keys: &[Key], tx: TxId)
+fn remove_all(locks: &mut LockMap, keys: &[Key], tx: TxId)
     requires { Rises locks.old.entries }
     ensures left { (m : MarkLem) → found mark_cmp locks.new.entries m ≡ (if is_one_of tx keys.now m then None else found mark_cmp locks.old.entries m) }
     ensures rises { Rises locks.new.entries }
@@ -189,7 +189,7 @@ fn remove_all(locks: &mut Locks, keys: &[Key], tx: TxId)
 }
 
 /// Takes all plain locks of the transaction back.
-pub fn release(locks: &mut Locks, index: &KeyIndex, tx: TxId)
+pub fn release(locks: &mut LockMap, index: &KeyIndex, tx: TxId)
     requires rises { Rises locks.old.entries }
     requires covered { IsCovered locks.old.entries index.now.entries }
     ensures turned { IsTurned (λ m. turned_where (m.1 == tx) without_plain) locks.old.entries locks.new.entries }
@@ -201,7 +201,7 @@ pub fn release(locks: &mut Locks, index: &KeyIndex, tx: TxId)
 }
 
 /// Takes all that the transaction has out of the table and the index.
-pub fn forget(locks: &mut Locks, index: &mut KeyIndex, tx: TxId)
+pub fn forget(locks: &mut LockMap, index: &mut KeyIndex, tx: TxId)
     requires rises { Rises locks.old.entries }
     requires covered { IsCovered locks.old.entries index.old.entries }
     ensures left { (m : MarkLem) → found mark_cmp locks.new.entries m ≡ (if m.1 == tx then None else found mark_cmp locks.old.entries m) }
@@ -247,7 +247,7 @@ fn note(index: &mut KeyIndex, alloc: Global, mark: &Mark) -> Result<(), NoMemory
 }
 
 /// Gives the mark a place, where it has none yet.
-pub fn make_place(locks: &mut Locks, index: &mut KeyIndex, alloc: Global, mark: &Mark) -> Result<(), NoMemory>
+pub fn make_place(locks: &mut LockMap, index: &mut KeyIndex, alloc: Global, mark: &Mark) -> Result<(), NoMemory>
     requires rises { Rises locks.old.entries }
     requires txs { AreTxs locks.old.entries }
     requires covered { IsCovered locks.old.entries index.old.entries }

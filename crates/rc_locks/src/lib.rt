@@ -6,6 +6,7 @@ mod cells;
 mod entries;
 mod flags;
 mod halves;
+mod moves;
 mod marks;
 mod parts;
 mod plain;
