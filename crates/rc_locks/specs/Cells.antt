@@ -1,13 +1,17 @@
 -- Who holds each key, by the parts that are prepared.
-use Rattle.std.specs.Prelude.{◌≡◌, ℕ, ◌≤◌, ◌==◌, not, Bool, true, List, [], ◌∷◌, filter, Option, Some, None, is_some, if◌then◌else◌, Vec, length, vec_capacity}
+use Rattle.std.specs.Prelude.{◌≡◌, ℕ, ◌≤◌, ◌==◌, not, ◌&&◌, Bool, true, List, [], ◌∷◌, filter, Option, Some, None, is_some, if◌then◌else◌, Vec, length, vec_capacity}
 use Rattle.std.specs.Global.{Global}
 use Rattle.std.specs.Ordering.{nat_cmp}
+use Rattle.std.specs.List.{slice_get, list_any, list_all}
 use Rattle.std.specs.List.Sorted.{IsStrictlySortedBy}
 use Rattle.std.specs.Map.{keys_of}
 use Rattle.rc_ids.specs.Tables.{Table, found, added, maybe}
 use Rattle.rc_ids.specs.Texts.{key_cmp, same_key}
 use Rattle.rc_body.specs.Bodies.{has_key, writes}
 use Rattle.rc_body.specs.declared.entry.Entry.{Entry}
+use Rattle.rc_body.specs.declared.reason.Reason.{Reason}
+use Rattle.rc_body.specs.declared.reason.Reason.TheVariants.{Locked}
+use Rattle.rc_protocol.specs.Shard.{Mark}
 use Rattle.rc_locks.specs.declared.cells.Holders.{Holders}
 
 -- the transactions rise
@@ -54,3 +58,18 @@ others t xs = filter (λ u. not (u == t)) xs
 abbrev pub leaves : ℕ → (Entry → Bool) → List Entry → List ℕ → List ℕ
 leaves t test [] xs = xs
 leaves t test (e ∷ es) xs = leaves t test es (if test e then others t xs else xs)
+
+-- nobody holds the key of the mark exclusively
+abbrev pub is_free_at : Table (List ℕ) Holders → Mark → Bool
+is_free_at cells m = not (is_some (slice_get (writers_at cells m.0) 0))
+
+abbrev pub is_among : List ℕ → ℕ → Bool
+is_among ts u = list_any (λ t. u == t) ts
+
+-- nor would, without these transactions, of which the mark is none
+abbrev pub frees_at : Table (List ℕ) Holders → List ℕ → Mark → Bool
+frees_at cells ts m = not (is_among ts m.1) && list_all (is_among ts) (writers_at cells m.0)
+
+-- why an entry may not be prepared, by who writes and who has its key
+abbrev pub locked_by : Option ℕ → Option ℕ → List ℕ → Bool → Option Reason
+locked_by writer reader k written = maybe writer (if written then maybe reader None (λ u. Some (Locked k u)) else None) (λ u. Some (Locked k u))

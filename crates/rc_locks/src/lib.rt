@@ -3,9 +3,12 @@
 
 mod answers;
 mod cells;
+mod checks;
 mod entries;
 mod flags;
+mod frees;
 mod halves;
+mod indexed;
 mod moves;
 mod marks;
 mod parts;
@@ -16,5 +19,6 @@ mod table;
 mod tests;
 
 pub use answers::{Answer, Asked, Freed};
+pub use indexed::Locks;
 pub use plain::PlainLocks;
 pub use table::LockTable;
