@@ -1,6 +1,7 @@
 -- Lemmas that several proofs share.
 pub mod CellFacts
 pub mod FlagFacts
+pub mod FreeFacts
 pub mod IndexFacts
 pub mod MarkLists
 pub mod MoveFacts

@@ -1,11 +1,12 @@
 // Locks by key and by transaction.
-ghost use Rattle.std.specs.Prelude.{◌≡◌, ◌≤◌, ◌<◌, ◌+◌, [], vec_len, vec_capacity};
+ghost use Rattle.std.specs.Prelude.{◌≡◌, ◌≤◌, ◌<◌, ◌+◌, ◌||◌, [], is_some, vec_len, vec_capacity};
 ghost use Rattle.std.specs.List.Sorted.{IsStrictlySortedBy-prop};
 ghost use Rattle.std.specs.Map.{keys_of};
 ghost use Rattle.std.specs.Ordering.{nat_cmp};
+ghost use Rattle.rc_ids.specs.Tables.{found};
 ghost use Rattle.rc_protocol.specs.Shard.{mark_cmp};
 ghost use Rattle.rc_locks.specs.Cells.{IsRising, IsIndexed, IsRoomFor};
-ghost use Rattle.rc_locks.specs.Flags.{plain_marks, lost_marks, Rises, AreTxs, IsCovered, ArePlaced};
+ghost use Rattle.rc_locks.specs.Flags.{lost_at, plain_marks, lost_marks, Rises, AreTxs, IsCovered, ArePlaced};
 
 use crate::cells::{self, Cells};
 use crate::checks::refusal;
@@ -41,6 +42,14 @@ pub struct Locks {
     ghost rises: { Rises marks.entries } by { IsStrictlySortedBy-prop mark_cmp (keys_of marks.entries) },
     ghost txs: { AreTxs marks.entries },
     ghost covered: { IsCovered marks.entries index.entries },
+}
+
+/// Whether the transaction of the mark is prepared, or lost its lock on the key.
+fn ignores(parts: &[Prepared], marks: &LockMap, mark: &Mark) -> bool
+    requires { IsRising parts.now }
+    ensures { result ≡ (is_some (found nat_cmp parts.now mark.now.1) || lost_at marks.now.entries mark.now) }
+{
+    halves::find(parts, mark.1).is_some() || lock_of(marks, mark).lost
 }
 
 impl LockTable for Locks {
@@ -91,7 +100,7 @@ impl LockTable for Locks {
 
     fn would_ask(&self, tx: TxId, key: &Key) -> Asked {
         let mark = (key.copy(), tx);
-        if halves::find(&self.parts, tx).is_some() || lock_of(&self.marks, &mark).lost {
+        if ignores(&self.parts, &self.marks, &mark) {
             return Asked::Ignored;
         }
         if frees::is_free(&self.cells, &mark) {
