@@ -1,10 +1,9 @@
 -- The holders of keys.
-use Rattle.std.proofs.Common.{◌≡◌, ℕ, suc, ◌+◌, ◌≤◌, ◌<◌, Bool, true, false, not, ◌||◌, ◌&&◌, ◌==◌, cond, if◌then◌else◌, List, [], ◌∷◌, filter, insert, length, drop, slice_get, Option, Some, None, is_some, IsSome, Vec, Global, vec_len, vec_capacity, refl, sym, ap, ◌∙◌, subst, arith}
+use Rattle.std.proofs.Common.{◌≡◌, ℕ, suc, ◌+◌, ◌≤◌, ◌<◌, Bool, true, false, not, ◌||◌, ◌&&◌, ◌==◌, cond, if◌then◌else◌, List, [], ◌∷◌, insert, length, drop, slice_get, Option, Some, Vec, Global, vec_len, vec_capacity, refl, sym, ap, ◌∙◌, subst, arith}
 use Rattle.std.specs.declared.cmp.Ordering.{Ordering}
 use Rattle.std.specs.declared.cmp.Ordering.TheVariants.{Less, Equal, Greater}
 use Rattle.std.specs.Ordering.{nat_cmp, is_eq, match_ordering}
 use Rattle.std.specs.List.{list_any}
-use Rattle.std.specs.BTreeMap.{is_at}
 use Rattle.std.specs.Cmp.Lexicographic.{texts_ties}
 use Rattle.std.proofs.lemmas.Cmp.{nat_cmp_total, nat_list_cmp_total}
 use Rattle.std.proofs.lemmas.Map.Keys.{any_passes_from_place}
@@ -14,9 +13,9 @@ use Rattle.rc_ids.specs.Texts.{key_cmp, same_key}
 use Rattle.rc_body.specs.Bodies.{has_key}
 use Rattle.rc_body.specs.declared.entry.Entry.{Entry}
 use Rattle.rc_locks.specs.declared.cells.Holders.{Holders}
-use Rattle.rc_locks.specs.Cells.{writers_at, readers_at, HasRoom, HasRooms, IsRoomFor, joins, others, leaves}
+use Rattle.rc_locks.specs.Cells.{HasRoom, HasRooms, joins, others, leaves}
 use Rattle.rc_locks.specs.Places.{place_where, passes_at}
-use Rattle.rc_locks.proofs.MarkLists.{from_same, same_itself, added_again}
+use Rattle.rc_locks.proofs.MarkLists.{same_itself, added_again}
 use Rattle.rc_locks.proofs.Rest.{rest_at, rest_end}
 use Rattle.rc_locks.proofs.PlaceFacts.{at_or_below, same_as, added_there, added_insert}
 use Rattle.rc_locks.proofs.IndexFacts.{IsSet, key_same}

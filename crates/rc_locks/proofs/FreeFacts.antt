@@ -1,14 +1,14 @@
 -- The waiting reads whose key nobody holds, by the holders of keys.
-use Rattle.std.proofs.Common.{◌≡◌, ℕ, Bool, true, false, not, ◌||◌, ◌&&◌, ◌==◌, cond, if◌then◌else◌, List, [], ◌∷◌, filter, Option, Some, None, is_some, refl, sym, ap, ◌∙◌, subst}
+use Rattle.std.proofs.Common.{◌≡◌, ℕ, Bool, true, false, not, ◌||◌, ◌&&◌, ◌==◌, cond, List, [], ◌∷◌, filter, Option, is_some, refl, sym, ap, ◌∙◌}
 use Rattle.std.specs.Ordering.{nat_cmp}
 use Rattle.std.specs.List.{slice_get, list_all}
 use Rattle.std.specs.List.Sorted.{IsStrictlySortedBy}
 use Rattle.rc_ids.specs.Tables.{Table, member, without}
 use Rattle.rc_body.specs.Bodies.{writes}
 use Rattle.rc_body.specs.declared.entry.Entry.{Entry}
-use Rattle.rc_protocol.specs.Shard.{Mark, mark_cmp, holder, is_free, cleared}
+use Rattle.rc_protocol.specs.Shard.{Mark, mark_cmp, is_free, cleared}
 use Rattle.rc_locks.specs.declared.cells.Holders.{Holders}
-use Rattle.rc_locks.specs.Cells.{IsRising, IsIndexed, writers_of, writers_at, others, is_free_at, is_among, frees_at}
+use Rattle.rc_locks.specs.Cells.{IsRising, IsIndexed, writers_of, writers_at, is_free_at, is_among, frees_at}
 use Rattle.rc_locks.specs.LockSets.{parts_left, cleared_all}
 use Rattle.rc_locks.proofs.MarkLists.{mark_total, mark_exact, member-filter}
 use Rattle.rc_locks.proofs.PartFacts.{first_kept, kept_of-without, rises-without}

@@ -1,5 +1,5 @@
 -- The keys that the index has of a transaction, and the marks of the table.
-use Rattle.std.proofs.Common.{◌≡◌, ℕ, ◌≤◌, ◌<◌, nat_lt, Bool, true, false, ◌||◌, ◌&&◌, ◌==◌, cond, if◌then◌else◌, List, [], ◌∷◌, ◌++◌, Option, Some, None, is_some, IsSome, Vec, Global, refl, sym, ap, ◌∙◌, subst, arith}
+use Rattle.std.proofs.Common.{◌≡◌, ℕ, ◌≤◌, ◌<◌, nat_lt, Bool, true, false, not, filter, ◌||◌, ◌&&◌, ◌==◌, cond, if◌then◌else◌, List, [], ◌∷◌, ◌++◌, Option, Some, None, is_some, IsSome, Vec, Global, refl, sym, ap, ◌∙◌, subst, arith}
 use Rattle.std.specs.declared.cmp.Ordering.{Ordering}
 use Rattle.std.specs.declared.cmp.Ordering.TheVariants.{Less, Equal, Greater}
 use Rattle.std.specs.Ordering.{nat_cmp, is_eq, is_gt, ordering_then, ordering_reverse}
@@ -16,7 +16,7 @@ use Rattle.rc_ids.specs.Texts.{key_cmp, same_key}
 use Rattle.rc_protocol.specs.Shard.{Mark, mark_cmp}
 use Rattle.rc_locks.specs.declared.flags.Lock.{Lock}
 use Rattle.rc_locks.specs.Flags.{plain_at, lost_at, is_plain, is_lost, AreTxs, has_place, IsTurned, without_plain, turned_where, is_one_of, keys_at, has_key_at, IsCovered}
-use Rattle.rc_locks.proofs.MarkLists.{mark_exact, from_same, same_itself}
+use Rattle.rc_locks.proofs.MarkLists.{mark_exact, from_same, same_itself, member-filter}
 use Rattle.rc_locks.proofs.FlagFacts.{number_test}
 
 abbrev pub Index : Type 0
@@ -67,7 +67,7 @@ still_covered old new index index' t left without covered m here = at (m.1 == t)
     at false is there =
         let other : is_eq (nat_cmp t m.1) ≡ false = sym (number_test t m.1) ∙ is in
         ap (λ (o : Option (Vec (List ℕ) Global)). member key_cmp (maybe o [] (λ v. v.items)) m.0)
-            (without m.1 ∙ ap (λ b. cond b None (found nat_cmp index m.1)) other)
+        (without m.1 ∙ ap (λ b. cond b None (found nat_cmp index m.1)) other)
         ∙ covered m there
 
 -- ONE MORE KEY
@@ -83,18 +83,18 @@ module _ (old new : Index) (t : ℕ) (ks : Vec (List ℕ) Global) (set : IsSet n
   pub noted_there : (k : List ℕ) → member key_cmp ks.items k ≡ true → has_key_at new (k, t) ≡ true
   noted_there k has =
       ap (λ (o : Option (Vec (List ℕ) Global)). member key_cmp (maybe o [] (λ v. v.items)) k)
-          (set t ∙ ap (λ b. cond b (Some ks) (found nat_cmp old t)) (same_itself nat_cmp_total t))
+      (set t ∙ ap (λ b. cond b (Some ks) (found nat_cmp old t)) (same_itself nat_cmp_total t))
       ∙ has
 
   kept_at : (m : Mark) (b : Bool) → is_eq (nat_cmp t m.1) ≡ b
       → (b ≡ true → member key_cmp ks.items m.0 ≡ true) → has_key_at old m ≡ true → has_key_at new m ≡ true
   kept_at m true is has had =
       ap (λ (o : Option (Vec (List ℕ) Global)). member key_cmp (maybe o [] (λ v. v.items)) m.0)
-          (set m.1 ∙ ap (λ b. cond b (Some ks) (found nat_cmp old m.1)) is)
+      (set m.1 ∙ ap (λ b. cond b (Some ks) (found nat_cmp old m.1)) is)
       ∙ has refl
   kept_at m false is has had =
       ap (λ (o : Option (Vec (List ℕ) Global)). member key_cmp (maybe o [] (λ v. v.items)) m.0)
-          (set m.1 ∙ ap (λ b. cond b (Some ks) (found nat_cmp old m.1)) is)
+      (set m.1 ∙ ap (λ b. cond b (Some ks) (found nat_cmp old m.1)) is)
       ∙ had
 
   pub noted_kept : (held : Vec (List ℕ) Global) → Some held ≡ found nat_cmp old t → ((k : List ℕ) → member key_cmp held.items k ≡ true → member key_cmp ks.items k ≡ true)
@@ -228,3 +228,57 @@ from_one es k txs t none = case_place (has_place es (k, t)) (λ had. never (none
   where
     never : has_place es (k, t) ≡ false → has_place es (k, t) ≡ true → ⊥
     never a b = cc
+
+-- A PLACE THAT GOES
+module _ (old new : Table Mark Lock) (k : Mark) (gone : IsSet mark_cmp old new k None) where
+  pub unchanged_gone : (f : Option Lock → Bool) → f None ≡ false → f (found mark_cmp old k) ≡ false → (m : Mark) → f (found mark_cmp new m) ≡ f (found mark_cmp old m)
+  unchanged_gone f none empty m = ap f (gone m) ∙ at (is_eq (mark_cmp k m)) refl
+    where
+      at : (b : Bool) → is_eq (mark_cmp k m) ≡ b → f (cond b None (found mark_cmp old m)) ≡ f (found mark_cmp old m)
+      at true is = none ∙ sym (ap f (ap (found mark_cmp old) (sym (from_same mark_exact k m is))) ∙ empty)
+      at false is = refl
+
+  old_but : (P : Mark → Type 0) → ((m : Mark) → is_eq (mark_cmp k m) ≡ false → has_place old m ≡ true → P m) → (m : Mark) → has_place new m ≡ true → P m
+  old_but P others m had = at (is_eq (mark_cmp k m)) refl (ap is_some (sym (gone m)) ∙ had)
+    where
+      at : (b : Bool) → is_eq (mark_cmp k m) ≡ b → is_some (cond b None (found mark_cmp old m)) ≡ true → P m
+      at true is h = absurd cc
+      at false is h = others m is h
+
+  pub gone_txs : AreTxs old → AreTxs new
+  gone_txs txs = old_but (λ m. 1 ≤ m.1) (λ m other had. txs m had)
+
+  pub gone_covered : (index index' : Index) → ((m : Mark) → is_eq (mark_cmp k m) ≡ false → has_key_at index m ≡ true → has_key_at index' m ≡ true) → IsCovered old index → IsCovered new index'
+  gone_covered index index' kept covered = old_but (λ m. has_key_at index' m ≡ true) (λ m other had. kept m other (covered m had))
+
+other_part : (k m : Mark) → is_eq (mark_cmp k m) ≡ false → is_eq (nat_cmp k.1 m.1) ≡ true → is_eq (key_cmp k.0 m.0) ≡ false
+other_part k m other same = at (key_cmp k.0 m.0) (nat_cmp k.1 m.1) other same
+  where
+    at : (a b : Ordering) → is_eq (ordering_then a b) ≡ false → is_eq b ≡ true → is_eq a ≡ false
+    at Less b p q = refl
+    at Equal b p q = absurd cc
+    at Greater b p q = refl
+
+pub struck : (old new : Index) (k : Mark) (held ks : Vec (List ℕ) Global) → Some held ≡ found nat_cmp old k.1 → IsSet nat_cmp old new k.1 (Some ks)
+    → ((x : List ℕ) → is_eq (key_cmp k.0 x) ≡ false → member key_cmp held.items x ≡ true → member key_cmp ks.items x ≡ true)
+    → (m : Mark) → is_eq (mark_cmp k m) ≡ false → has_key_at old m ≡ true → has_key_at new m ≡ true
+struck old new k held ks there set kept m other had =
+    kept_at old new k.1 ks set m (is_eq (nat_cmp k.1 m.1)) refl
+    (λ is. kept m.0 (other_part k m other is)
+    (ap (λ (o : Option (Vec (List ℕ) Global)). member key_cmp (maybe o [] (λ v. v.items)) m.0) (there ∙ ap (found nat_cmp old) (from_same exact_unsigned k.1 m.1 is)) ∙ had)) had
+
+pub bare : (old new : Index) (t : ℕ) → keys_at old t ≡ [] → IsSet nat_cmp old new t None → (m : Mark) → has_key_at old m ≡ true → has_key_at new m ≡ true
+bare old new t none gone m had = at (is_eq (nat_cmp t m.1)) refl
+  where
+    at : (b : Bool) → is_eq (nat_cmp t m.1) ≡ b → has_key_at new m ≡ true
+    at true is =
+        absurd (let never : false ≡ true = sym (ap (λ (xs : List (List ℕ)). member key_cmp xs m.0) (ap (keys_at old) (sym (from_same exact_unsigned t m.1 is)) ∙ none)) ∙ had in cc)
+    at false is =
+        ap (λ (o : Option (Vec (List ℕ) Global)). member key_cmp (maybe o [] (λ v. v.items)) m.0) (gone m.1 ∙ ap (λ b. cond b None (found nat_cmp old m.1)) is) ∙ had
+
+pub key_stays : (xs ys : List (List ℕ)) (key : List ℕ) → ys ≡ filter (λ (x : List ℕ). not (is_eq (key_cmp key x))) xs
+    → (k : List ℕ) → is_eq (key_cmp key k) ≡ false → member key_cmp xs k ≡ true → member key_cmp ys k ≡ true
+key_stays xs ys key is k other has =
+    ap (λ (zs : List (List ℕ)). member key_cmp zs k) is
+    ∙ member-filter nat_list_cmp_total exact_bytes (λ (x : List ℕ). not (is_eq (key_cmp key x))) xs k
+    ∙ (λ i. not (other i) && has i)

@@ -1,17 +1,15 @@
 -- The plain locks and the marks of lost ones, after a lock is turned.
-use Rattle.std.proofs.Common.{◌≡◌, ℕ, zero, suc, ◌+◌, ◌≤◌, Bool, true, false, not, ◌||◌, ◌&&◌, ◌==◌, cond, if◌then◌else◌, List, [], ◌∷◌, filter, drop, length, Option, Some, None, is_some, Result, Ok, Err, OnErr, refl, sym, ap, ◌∙◌, subst, arith}
-use Rattle.std.specs.Ordering.{nat_cmp, is_eq}
+use Rattle.std.proofs.Common.{◌≡◌, ℕ, zero, suc, ◌+◌, ◌≤◌, Bool, true, false, not, ◌||◌, ◌&&◌, ◌==◌, cond, if◌then◌else◌, List, [], ◌∷◌, filter, drop, Option, Some, None, is_some, Result, Ok, Err, OnErr, refl, sym, ap, ◌∙◌}
+use Rattle.std.specs.Ordering.{is_eq}
 use Rattle.std.specs.Option.{option_map}
 use Rattle.std.specs.List.Sorted.{IsStrictlySortedBy}
 use Rattle.std.proofs.lemmas.Cmp.{eq_by_cmp_equiv}
 use Rattle.std.proofs.lemmas.List.Kept.{IsStrictlySortedBy-filter}
 use Rattle.std.proofs.lemmas.Map.Entries.{option_filter}
 use Rattle.rc_ids.specs.Tables.{Table, found, member, added}
-use Rattle.rc_body.specs.declared.entry.Entry.{Entry}
-use Rattle.rc_protocol.specs.Shard.{Mark, mark_cmp, is_other, is_taken, cleared, added_all}
+use Rattle.rc_protocol.specs.Shard.{Mark, mark_cmp, cleared, added_all}
 use Rattle.rc_locks.specs.declared.flags.Lock.{Lock}
 use Rattle.rc_locks.specs.Flags.{is_plain, is_lost, plain_at, lost_at, plain_marks, lost_marks, Rises, AreTxs, has_place, same_mark, IsTurned, with_plain, without_plain, taken_away, turned_where, ArePlaced}
-use Rattle.rc_locks.proofs.Rest.{item_at}
 use Rattle.rc_locks.proofs.MarkLists.{mark_total, mark_exact, from_same, member-added, rises-added, member-filter, member-kept, rises-kept, same_members, rises-added_all, member-added_all}
 
 plain_part : (o : Option Lock) → is_some (option_filter (λ (l : Lock). l.plain) o) ≡ is_plain o

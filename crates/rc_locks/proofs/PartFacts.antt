@@ -1,22 +1,20 @@
 -- Parts in the order of their transactions, and who holds a key by them.
-use Rattle.std.proofs.Common.{◌≡◌, ℕ, zero, suc, ◌≤◌, ◌<◌, nat_lt, Bool, true, false, not, ◌||◌, ◌&&◌, ◌==◌, cond, if◌then◌else◌, List, [], ◌∷◌, filter, length, get_or, remove, slice_get, Option, Some, None, is_some, refl, sym, ap, ◌∙◌, subst, arith}
+use Rattle.std.proofs.Common.{◌≡◌, ℕ, zero, suc, ◌≤◌, ◌<◌, nat_lt, Bool, true, false, not, ◌||◌, ◌&&◌, ◌==◌, cond, if◌then◌else◌, List, [], ◌∷◌, filter, length, get_or, remove, slice_get, Some, None, is_some, refl, sym, ap, ◌∙◌, subst, arith}
 use Rattle.std.specs.declared.cmp.Ordering.{Ordering}
 use Rattle.std.specs.declared.cmp.Ordering.TheVariants.{Less, Equal, Greater}
 use Rattle.std.specs.Ordering.{nat_cmp, is_eq, is_le, match_ordering}
-use Rattle.std.specs.List.{AllByRecursion, AllWithin, list_any}
-use Rattle.std.specs.List.Sorted.{IsStrictlySortedBy, IsPartitionedBy, IsPartitionPoint}
-use Rattle.std.specs.Map.{keys_of, lookup, remove_entry}
+use Rattle.std.specs.List.{AllByRecursion}
+use Rattle.std.specs.List.Sorted.{IsStrictlySortedBy, IsPartitionedBy}
+use Rattle.std.specs.Map.{keys_of}
 use Rattle.std.specs.Option.{option_map}
-use Rattle.std.specs.BTreeMap.{is_at, insert_entry}
 use Rattle.std.proofs.lemmas.Cmp.{nat_cmp_total}
 use Rattle.std.proofs.lemmas.Map.Lookups.{exact_unsigned}
-use Rattle.rc_ids.specs.Tables.{Table, found, put, without, added}
+use Rattle.rc_ids.specs.Tables.{found, put, without, added}
 use Rattle.rc_ids.specs.Texts.{same_key}
 use Rattle.rc_body.specs.Bodies.{has_key, writes}
 use Rattle.rc_body.specs.declared.entry.Entry.{Entry}
-use Rattle.rc_protocol.specs.Shard.{holder, reader, first_part}
-use Rattle.rc_locks.specs.declared.cells.Holders.{Holders}
-use Rattle.rc_locks.specs.Cells.{IsRising, IsIndexed, writers_of, readers_of, writers_at, readers_at, others}
+use Rattle.rc_protocol.specs.Shard.{first_part}
+use Rattle.rc_locks.specs.Cells.{IsRising, others}
 use Rattle.rc_locks.specs.Places.{place_where}
 use Rattle.rc_locks.proofs.MarkLists.{rises-added, below_kept, below_all}
 

@@ -6,7 +6,7 @@ use Rattle.std.specs.List.{slice_get, list_any, list_all}
 use Rattle.std.specs.List.Sorted.{IsStrictlySortedBy}
 use Rattle.std.specs.Map.{keys_of}
 use Rattle.rc_ids.specs.Tables.{Table, found, added, maybe}
-use Rattle.rc_ids.specs.Texts.{key_cmp, same_key}
+use Rattle.rc_ids.specs.Texts.{key_cmp}
 use Rattle.rc_body.specs.Bodies.{has_key, writes}
 use Rattle.rc_body.specs.declared.entry.Entry.{Entry}
 use Rattle.rc_body.specs.declared.reason.Reason.{Reason}

@@ -8,7 +8,7 @@ use Rattle.std.specs.List.Sorted.{IsStrictlySortedBy}
 use Rattle.rc_ids.specs.Tables.{Table, found, member, maybe}
 use Rattle.rc_ids.specs.Texts.{key_cmp, same_key}
 use Rattle.rc_body.specs.declared.entry.Entry.{Entry}
-use Rattle.rc_protocol.specs.Shard.{Mark, mark_cmp, is_taken}
+use Rattle.rc_protocol.specs.Shard.{Mark, mark_cmp}
 use Rattle.rc_locks.specs.declared.flags.Lock.{Lock}
 
 abbrev pub is_plain : Option Lock → Bool

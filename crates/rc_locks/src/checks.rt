@@ -15,12 +15,7 @@ use rc_ids::{Key, TxId};
 use rc_versions::Versions;
 
 /// A transaction that writes the key, or one that has it where it is written, keeps it from being prepared.
-fn reason_of(
-    writer: Option<TxId>,
-    reader: Option<TxId>,
-    key: &Key,
-    written: bool,
-) -> Option<Reason>
+fn reason_of(writer: Option<TxId>, reader: Option<TxId>, key: &Key, written: bool) -> Option<Reason>
     ensures { result ≡ locked_by writer reader key.now written }
 {
     if let Some(tx) = writer {

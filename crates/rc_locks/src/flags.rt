@@ -1,10 +1,10 @@
 // What each transaction has at each key, and for each transaction the keys at which it may have something.
 ghost use Rattle.std.specs.Prelude.{◌≡◌, ℕ, ◌<◌, ◌==◌, ◌&&◌, List, [], ◌∷◌, not, true, false, Some, None, OnOk, IfOk, IfSome, if◌then◌else◌};
-ghost use Rattle.std.specs.Ordering.{nat_cmp};
+ghost use Rattle.std.specs.Ordering.{nat_cmp, is_eq};
 ghost use Rattle.rc_ids.specs.Tables.{found, member};
 ghost use Rattle.rc_ids.specs.Texts.{key_cmp};
 ghost use Rattle.rc_protocol.specs.Shard.{Mark as MarkLem, mark_cmp, is_taken};
-ghost use Rattle.rc_locks.specs.Flags.{plain_at, lost_at, Rises, AreTxs, has_place, same_mark, IsTurned, with_plain, without_plain, taken_away, turned_where, is_other_at, is_before, is_one_of, has_key_at, IsCovered};
+ghost use Rattle.rc_locks.specs.Flags.{plain_at, lost_at, Rises, AreTxs, has_place, same_mark, IsTurned, with_plain, without_plain, taken_away, turned_where, is_other_at, is_before, is_one_of, keys_at, has_key_at, IsCovered};
 
 use crate::marks::Mark;
 use rc_body::Body;
@@ -247,7 +247,12 @@ fn note(index: &mut KeyIndex, alloc: Global, mark: &Mark) -> Result<(), NoMemory
 }
 
 /// Gives the mark a place, where it has none yet.
-pub fn make_place(locks: &mut LockMap, index: &mut KeyIndex, alloc: Global, mark: &Mark) -> Result<(), NoMemory>
+pub fn make_place(
+    locks: &mut LockMap,
+    index: &mut KeyIndex,
+    alloc: Global,
+    mark: &Mark,
+) -> Result<(), NoMemory>
     requires rises { Rises locks.old.entries }
     requires txs { AreTxs locks.old.entries }
     requires covered { IsCovered locks.old.entries index.old.entries }
@@ -265,9 +270,67 @@ pub fn make_place(locks: &mut LockMap, index: &mut KeyIndex, alloc: Global, mark
         return Ok(());
     }
     note(index, alloc, mark)?;
-    locks.insert((mark.0.copy(), mark.1), Lock {
-        plain: false,
-        lost: false,
-    })?;
+    locks.insert(
+        (mark.0.copy(), mark.1),
+        Lock {
+            plain: false,
+            lost: false,
+        },
+    )?;
     Ok(())
+}
+
+/// Takes the key of the mark away from its transaction's.
+fn strike(index: &mut KeyIndex, mark: &Mark)
+    ensures { (m : MarkLem) → same_mark mark.now m ≡ false → has_key_at index.old.entries m ≡ true → has_key_at index.new.entries m ≡ true }
+{
+    if let Some(keys) = index.get_mut(&mark.1) {
+        drop_key(keys, &mark.0);
+    }
+}
+
+/// Takes the key out.
+fn drop_key(keys: &mut Vec<Key>, key: &Key)
+    ensures { (k : List ℕ) → is_eq (key_cmp key.now k) ≡ false → member key_cmp keys.old.items k ≡ true → member key_cmp keys.new.items k ≡ true }
+{
+    keys.retain(|other| key.cmp(other).is_ne());
+}
+
+/// Whether the transaction has an entry in the index, with no keys.
+fn is_bare(index: &KeyIndex, tx: TxId) -> bool
+    ensures { result ≡ true → keys_at index.now.entries tx ≡ [] }
+{
+    match index.get(&tx) {
+        Some(keys) => keys.is_empty(),
+        None => false,
+    }
+}
+
+/// Takes the entry of the transaction out of the index, if it has no keys.
+fn drop_bare(index: &mut KeyIndex, tx: TxId)
+    ensures { (m : MarkLem) → has_key_at index.old.entries m ≡ true → has_key_at index.new.entries m ≡ true }
+{
+    if is_bare(index, tx) {
+        let _ = index.remove(&tx);
+    }
+}
+
+/// Takes the place of the mark away, if it has neither a plain lock nor lost one.
+pub fn drop_idle(locks: &mut LockMap, index: &mut KeyIndex, mark: &Mark)
+    requires rises { Rises locks.old.entries }
+    requires txs { AreTxs locks.old.entries }
+    requires covered { IsCovered locks.old.entries index.old.entries }
+    ensures plain { (m : MarkLem) → plain_at locks.new.entries m ≡ plain_at locks.old.entries m }
+    ensures lost { (m : MarkLem) → lost_at locks.new.entries m ≡ lost_at locks.old.entries m }
+    ensures rises { Rises locks.new.entries }
+    ensures txs { AreTxs locks.new.entries }
+    ensures covered { IsCovered locks.new.entries index.new.entries }
+{
+    let lock = lock_of(locks, mark);
+    if lock.plain || lock.lost {
+        return;
+    }
+    let _ = locks.remove(mark);
+    strike(index, mark);
+    drop_bare(index, mark.1);
 }

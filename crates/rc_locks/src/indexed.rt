@@ -8,15 +8,15 @@ ghost use Rattle.rc_protocol.specs.Shard.{mark_cmp};
 ghost use Rattle.rc_locks.specs.Cells.{IsRising, IsIndexed, IsRoomFor};
 ghost use Rattle.rc_locks.specs.Flags.{lost_at, plain_marks, lost_marks, Rises, AreTxs, IsCovered, ArePlaced};
 
+#[cfg(test)]
+mod tests;
+
 use crate::cells::{self, Cells};
 use crate::checks::refusal;
 use crate::flags::{KeyIndex, LockMap, lock_of};
-use crate::frees;
-use crate::halves;
 use crate::marks::{self, Mark};
-use crate::moves;
 use crate::parts::Prepared;
-use crate::{Answer, Asked, Freed, LockTable};
+use crate::{Answer, Asked, Freed, LockTable, frees, halves, moves};
 use rc_body::{Body, Parts};
 use rc_ids::{Key, NoMemory, TxId};
 use rc_versions::Versions;
@@ -111,7 +111,7 @@ impl LockTable for Locks {
 
     fn cancel(&mut self, tx: TxId, key: &Key) {
         let mark = (key.copy(), tx);
-        moves::unlock(&mut self.marks, &mark);
+        moves::unlock(&mut self.marks, &mut self.index, &mark);
         marks::remove(&mut self.waiting, &mark);
     }
 

@@ -34,16 +34,18 @@ pub fn lock(
 }
 
 /// Takes a plain lock back.
-pub fn unlock(locks: &mut LockMap, mark: &Mark)
+pub fn unlock(locks: &mut LockMap, index: &mut KeyIndex, mark: &Mark)
     requires rises { Rises locks.old.entries }
     requires txs { AreTxs locks.old.entries }
+    requires covered { IsCovered locks.old.entries index.old.entries }
     ensures plain { plain_marks locks.new.entries ≡ filter (is_other mark.now) (plain_marks locks.old.entries) }
     ensures lost { lost_marks locks.new.entries ≡ lost_marks locks.old.entries }
     ensures rises { Rises locks.new.entries }
     ensures txs { AreTxs locks.new.entries }
-    ensures places { (m : MarkLem) → has_place locks.new.entries m ≡ has_place locks.old.entries m }
+    ensures covered { IsCovered locks.new.entries index.new.entries }
 {
     flags::unlock(locks, mark);
+    flags::drop_idle(locks, index, mark);
 }
 
 /// Takes the plain locks that a prepare of the part takes away, and those of the transaction itself.

@@ -11,8 +11,8 @@ pub returns-clause-items : goal.returns-clause-items
 returns-clause-items c =
     let list : List ℕ = c.args.list.now.items in
     let placed =
-        add_insert list c.deref.result.now c.deref-2.result.now c.args.tx c.place_of-place.result c.is_at.result
-        c.deref.ensures.value c.deref-2.ensures.value c.place_of-place.ensures.place c.is_at.ensures c.if-is_at.false in
+    add_insert list c.deref.result.now c.deref-2.result.now c.args.tx c.place_of-place.result c.is_at.result
+    c.deref.ensures.value c.deref-2.ensures.value c.place_of-place.ensures.place c.is_at.ensures c.if-is_at.false in
     let few : c.place_of-place.result ≤ length list = let within = c.place_of-place.ensures.few in let long = ap length c.deref.ensures.value in omega (arith, within, long) in
     c.insert-placed.ensures.items
     ∙ ap (λ (b : Bool). if b then insert list c.place_of-place.result c.args.tx else list)

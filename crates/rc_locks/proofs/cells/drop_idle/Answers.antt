@@ -1,4 +1,4 @@
-use Rattle.std.proofs.Common.{None, refl, sym, ◌∙◌}
+use Rattle.std.proofs.Common.{None, refl}
 use Rattle.rc_locks.proofs.CellFacts.{list_idle}
 use Rattle.rc_locks.proofs.cells.drop_idle.Goals as goal
 

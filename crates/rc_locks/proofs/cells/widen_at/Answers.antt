@@ -32,7 +32,7 @@ pub returns-in_ok-insert-in-None-clause-writers : goal.returns-in_ok-insert-in-N
 returns-in_ok-insert-in-None-clause-writers c k =
     let same = ap (λ (m : BTreeMap (List ℕ) Holders). m.entries) c.get_mut.follows.holds-at-none in
     let none = ap (λ (es : Table (List ℕ) Holders). writers_at es c.copy.result) same ∙ ap (writers_at c.args.cells.now.entries) c.copy.ensures
-        ∙ sym (ap (λ (o : Option Holders). maybe o [] (λ x. x.writers.items)) c.in-None.ensures.value) in
+    ∙ sym (ap (λ (o : Option Holders). maybe o [] (λ x. x.writers.items)) c.in-None.ensures.value) in
     list_idle (λ x. x.writers.items) c.get_mut.follows.lender-at-none.entries c.insert.new.self.entries c.copy.result (Some c.in_ok-cell-in-None.cell)
     c.in_ok-insert-in-None.ensures.updates.0 c.in_ok-cell-in-None.ensures.writers none k
     ∙ ap (λ (es : Table (List ℕ) Holders). writers_at es k) same
@@ -41,7 +41,7 @@ pub returns-in_ok-insert-in-None-clause-readers : goal.returns-in_ok-insert-in-N
 returns-in_ok-insert-in-None-clause-readers c k =
     let same = ap (λ (m : BTreeMap (List ℕ) Holders). m.entries) c.get_mut.follows.holds-at-none in
     let none = ap (λ (es : Table (List ℕ) Holders). readers_at es c.copy.result) same ∙ ap (readers_at c.args.cells.now.entries) c.copy.ensures
-        ∙ sym (ap (λ (o : Option Holders). maybe o [] (λ x. x.readers.items)) c.in-None.ensures.value) in
+    ∙ sym (ap (λ (o : Option Holders). maybe o [] (λ x. x.readers.items)) c.in-None.ensures.value) in
     list_idle (λ x. x.readers.items) c.get_mut.follows.lender-at-none.entries c.insert.new.self.entries c.copy.result (Some c.in_ok-cell-in-None.cell)
     c.in_ok-insert-in-None.ensures.updates.0 c.in_ok-cell-in-None.ensures.readers none k
     ∙ ap (λ (es : Table (List ℕ) Holders). readers_at es k) same

@@ -1,4 +1,4 @@
-use Rattle.std.proofs.Common.{◌≡◌, Bool, false, ℕ, ap, sym, ◌∙◌, is_some}
+use Rattle.std.proofs.Common.{ap, sym, ◌∙◌, is_some}
 use Rattle.rc_locks.proofs.IndexFacts.{from_on, first_least, first_in, below_first, other_key, from_one}
 use Rattle.rc_locks.proofs.flags.first_at.Goals as goal
 

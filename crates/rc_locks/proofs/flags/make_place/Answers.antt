@@ -1,4 +1,4 @@
-use Rattle.std.proofs.Common.{◌≡◌, ◌≤◌, subst, sym, ◌∙◌, arith}
+use Rattle.std.proofs.Common.{sym, ◌∙◌, arith}
 use Rattle.rc_locks.proofs.IndexFacts.{copied_set, place_kept, plain_unchanged, lost_unchanged, placed_txs, placed_covered}
 use Rattle.rc_locks.proofs.flags.make_place.Goals as goal
 

@@ -1,5 +1,4 @@
-use Rattle.std.proofs.Common.{◌≡◌, Bool, false, ℕ, ap, sym, ◌∙◌, subst, is_some}
-use Rattle.std.specs.BTreeMap.Range.{IsLtBy}
+use Rattle.std.proofs.Common.{ap, sym, ◌∙◌, is_some}
 use Rattle.rc_locks.proofs.IndexFacts.{after_that, first_in, first_least, first_after, below_first, other_key, not_gt}
 use Rattle.rc_locks.proofs.flags.next_at.Goals as goal
 

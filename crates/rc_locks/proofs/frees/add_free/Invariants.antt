@@ -1,5 +1,4 @@
-use Rattle.std.proofs.Common.{◌≡◌, ◌≤◌, ◌+◌, ◌++◌, ℕ, List, filter, length, drop, take, vec_len, vec_capacity}
-use Rattle.rc_protocol.specs.Shard.{Mark}
+use Rattle.std.proofs.Common.{◌≡◌, ◌≤◌, ◌+◌, ◌++◌, filter, length, drop, vec_len, vec_capacity}
 use Rattle.rc_locks.specs.Cells.{is_free_at}
 use Rattle.rc_locks.proofs.frees.add_free.Given as goal
 

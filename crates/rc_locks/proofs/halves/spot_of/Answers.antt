@@ -1,9 +1,8 @@
-use Rattle.std.proofs.Common.{◌≡◌, ◌≤◌, ◌<◌, ◌==◌, ℕ, List, get_or, length, remove, sym, ap, ◌∙◌, subst, arith}
+use Rattle.std.proofs.Common.{◌≤◌, ◌<◌, ◌==◌, ℕ, List, get_or, length, remove, sym, ap, ◌∙◌, subst, arith}
 use Rattle.std.specs.List.{slice_get}
 use Rattle.std.specs.Option.{option_map}
 use Rattle.rc_body.specs.declared.entry.Entry.{Entry}
-use Rattle.rc_locks.specs.Places.{place_where}
-use Rattle.rc_locks.proofs.PartFacts.{at_least, spot_found, spot_other, past_all}
+use Rattle.rc_locks.proofs.PartFacts.{spot_found, spot_other, past_all}
 use Rattle.rc_locks.proofs.halves.spot_of.Goals as goal
 
 pub returns-then-place-parts-clause-none : goal.returns-then-place-parts-clause-none

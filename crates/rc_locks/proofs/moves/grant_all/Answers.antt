@@ -1,7 +1,7 @@
 use Rattle.std.proofs.Common.{◌+◌, List, drop, refl, sym, ap, ◌∙◌}
 use Rattle.rc_protocol.specs.Shard.{Mark, added_all}
 use Rattle.rc_locks.specs.Flags.{plain_marks, with_plain, same_mark}
-use Rattle.rc_locks.proofs.Rest.{item_at, rest_end}
+use Rattle.rc_locks.proofs.Rest.{item_at}
 use Rattle.rc_locks.proofs.FlagFacts.{txs_stay, places_stay}
 use Rattle.rc_locks.proofs.MoveFacts.{granted_plain, lost_stays, lost_turned, placed_at}
 use Rattle.rc_locks.proofs.moves.grant_all.Goals as goal

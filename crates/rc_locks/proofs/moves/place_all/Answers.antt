@@ -1,4 +1,4 @@
-use Rattle.std.proofs.Common.{◌≡◌, true, List, sym, ap, ◌∙◌, subst}
+use Rattle.std.proofs.Common.{◌≡◌, true, List, ap, ◌∙◌}
 use Rattle.std.specs.Ordering.{is_eq}
 use Rattle.rc_ids.specs.Tables.{member}
 use Rattle.rc_protocol.specs.Shard.{Mark, mark_cmp}
