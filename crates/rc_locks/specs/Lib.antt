@@ -1,4 +1,6 @@
 -- What the contracts of this crate cite.
+pub mod Cells
+pub mod Flags
 pub mod LockSets
 pub mod Places
 pub mod Runs

@@ -2,8 +2,15 @@
 #![tactic(auto)]
 
 mod answers;
+mod cells;
+mod checks;
 mod entries;
+mod flags;
+mod frees;
+mod halves;
+mod indexed;
 mod marks;
+mod moves;
 mod parts;
 mod plain;
 mod reasons;
@@ -13,6 +20,7 @@ mod table;
 mod tests;
 
 pub use answers::{Answer, Asked, Freed};
+pub use indexed::Locks;
 pub use plain::PlainLocks;
 pub use run::{Answers, LockAnswer, LockCall, run_locks};
 pub use table::LockTable;

@@ -74,7 +74,7 @@ fn first_lost(lost: &[Mark], tx: TxId, part: &Body) -> Option<Reason>
 }
 
 /// Of the first entry that is stale.
-fn first_stale(at: &Versions, part: &Body) -> Option<Reason>
+pub fn first_stale(at: &Versions, part: &Body) -> Option<Reason>
     ensures { result ≡ first_reason (stale at.now.rows) part.now }
 {
     for index in 0..part.len() {

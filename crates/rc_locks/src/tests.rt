@@ -1,9 +1,12 @@
-// Reads and a write of one key.
-use crate::{Answer, Answers, Asked, LockAnswer, LockCall, LockTable, PlainLocks, run_locks};
+// Reads and a write of one key, the same over each lock table.
+use crate::{
+    Answer, Answers, Asked, LockAnswer, LockCall, LockTable, Locks, PlainLocks, run_locks,
+};
 use rc_body::{Body, Entry};
 use rc_ids::{Key, TxId, Val, Version};
 use rc_versions::Versions;
 use std::alloc::Global;
+use std::process::Abort;
 use std::test::Fail;
 
 /// A body that writes the key, which was never written.
@@ -17,10 +20,9 @@ fn write_of(alloc: Global, key: &Key) -> Result<Body, Fail> {
     Ok(body)
 }
 
-#[test]
-fn a_write_takes_a_lock_and_gives_it_back(rt: HostRuntime) -> Result<(), Fail> {
-    let alloc = rt.alloc();
-    let mut locks = PlainLocks::new(alloc);
+/// A read's lock is lost to a write, for which another read waits until it is finished.
+fn takes_a_lock<L: LockTable>(rt: &impl Abort, alloc: Global) -> Result<(), Fail> {
+    let mut locks = L::new(alloc);
     let key = Key::new(b"x")?;
     assert!(rt; locks.ask(TxId(1), &key)? == Asked::Granted);
     let part = write_of(alloc, &key)?;
@@ -46,6 +48,12 @@ fn a_write_takes_a_lock_and_gives_it_back(rt: HostRuntime) -> Result<(), Fail> {
     Ok(())
 }
 
+#[test]
+fn a_write_takes_a_lock_and_gives_it_back(rt: HostRuntime) -> Result<(), Fail> {
+    takes_a_lock::<PlainLocks>(&rt, rt.alloc())?;
+    takes_a_lock::<Locks>(&rt, rt.alloc())
+}
+
 /// What is answered where a transaction reads the key, a second one writes it, a third one asks for it, may take this back, and then the
 /// second one is finished.
 fn answers<L: LockTable>(alloc: Global, is_cancelled: bool) -> Result<Answers, Fail> {
@@ -65,9 +73,8 @@ fn answers<L: LockTable>(alloc: Global, is_cancelled: bool) -> Result<Answers, F
     Ok(answers)
 }
 
-#[test]
-fn a_read_that_waits_is_granted(rt: HostRuntime) -> Result<(), Fail> {
-    let answers = answers::<PlainLocks>(rt.alloc(), false)?;
+/// The third transaction waited, and was granted at the finish.
+fn is_granted(rt: &impl Abort, answers: &Answers) -> Result<(), Fail> {
     assert_eq!(rt; answers.len(), 4);
     assert!(rt; matches!(answers[0], LockAnswer::Asked(Asked::Granted)));
     assert!(rt; matches!(answers[1], LockAnswer::Tested(Answer::Yes)));
@@ -82,11 +89,22 @@ fn a_read_that_waits_is_granted(rt: HostRuntime) -> Result<(), Fail> {
 }
 
 #[test]
-fn a_read_that_was_taken_back_is_not(rt: HostRuntime) -> Result<(), Fail> {
-    let answers = answers::<PlainLocks>(rt.alloc(), true)?;
+fn a_read_that_waits_is_granted(rt: HostRuntime) -> Result<(), Fail> {
+    is_granted(&rt, &answers::<PlainLocks>(rt.alloc(), false)?)?;
+    is_granted(&rt, &answers::<Locks>(rt.alloc(), false)?)
+}
+
+/// The third transaction waited, and was not granted once it had taken its read back.
+fn is_taken_back(rt: &impl Abort, answers: &Answers) -> Result<(), Fail> {
     assert_eq!(rt; answers.len(), 5);
     assert!(rt; matches!(answers[2], LockAnswer::Asked(Asked::Waits)));
     assert!(rt; matches!(answers[3], LockAnswer::Cancelled));
     assert!(rt; matches!(&answers[4], LockAnswer::Finished(freed) if freed.is_empty()));
     Ok(())
+}
+
+#[test]
+fn a_read_that_was_taken_back_is_not(rt: HostRuntime) -> Result<(), Fail> {
+    is_taken_back(&rt, &answers::<PlainLocks>(rt.alloc(), true)?)?;
+    is_taken_back(&rt, &answers::<Locks>(rt.alloc(), true)?)
 }

@@ -1,4 +1,4 @@
-use Rattle.std.proofs.Common.{Bool, List, insert, sym, ap, ◌∙◌, if◌then◌else◌}
+use Rattle.std.proofs.Common.{Bool, List, insert, ap, ◌∙◌, if◌then◌else◌}
 use Rattle.rc_protocol.specs.Shard.{Mark}
 use Rattle.rc_locks.proofs.PlaceFacts.{add_there, add_insert}
 use Rattle.rc_locks.proofs.marks.add.Goals as goal

@@ -1,5 +1,5 @@
-use Rattle.std.proofs.Common.{◌≡◌, ◌≤◌, ◌+◌, ◌++◌, ℕ, List, filter, length, drop, take, vec_len, vec_capacity}
-use Rattle.rc_protocol.specs.Shard.{Mark, mark_cmp, added_all, is_taken, is_free, holder, reader}
+use Rattle.std.proofs.Common.{◌≡◌, ◌≤◌, ◌+◌, ◌++◌, filter, length, drop, vec_len, vec_capacity}
+use Rattle.rc_protocol.specs.Shard.{is_free}
 use Rattle.rc_locks.proofs.marks.add_free.Given as goal
 
 abbrev pub invariant-loop-mark : goal.invariant-loop-mark

@@ -1,7 +1,7 @@
-use Rattle.std.proofs.Common.{◌≡◌, ◌≤◌, ◌+◌, ◌++◌, ℕ, List, filter, length, drop, take, vec_len, vec_capacity}
-use Rattle.rc_protocol.specs.Shard.{Mark, mark_cmp, added_all, is_taken, is_free, holder, reader}
+use Rattle.std.proofs.Common.{◌≡◌, ◌+◌, drop}
+use Rattle.rc_protocol.specs.Shard.{Mark, mark_cmp}
 use Rattle.rc_locks.specs.Places.{place_where}
-use Rattle.std.specs.Ordering.{is_le, is_eq, nat_cmp}
+use Rattle.std.specs.Ordering.{is_le}
 use Rattle.rc_locks.proofs.marks.place_of.Given as goal
 
 abbrev pub invariant-loop-place : goal.invariant-loop-place

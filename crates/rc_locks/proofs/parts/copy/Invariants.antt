@@ -1,4 +1,4 @@
-use Rattle.std.proofs.Common.{◌≡◌, ◌≤◌, ◌+◌, ◌++◌, ℕ, List, filter, length, drop, take, vec_len, vec_capacity}
+use Rattle.std.proofs.Common.{◌≡◌, take}
 use Rattle.rc_locks.proofs.parts.copy.Given as goal
 
 abbrev pub invariant-loop-entry : goal.invariant-loop-entry

@@ -1,6 +1,5 @@
-use Rattle.std.proofs.Common.{◌≡◌, ◌≤◌, ◌+◌, ◌++◌, ℕ, List, filter, length, drop, take, vec_len, vec_capacity}
-use Rattle.rc_locks.specs.Places.{place_where}
-use Rattle.std.specs.Ordering.{is_le, is_eq, nat_cmp}
+use Rattle.std.proofs.Common.{◌≡◌, drop}
+use Rattle.std.specs.Ordering.{nat_cmp}
 use Rattle.rc_ids.specs.Tables.{found}
 use Rattle.rc_locks.proofs.parts.find.Given as goal
 

@@ -1,5 +1,5 @@
-use Rattle.std.proofs.Common.{◌≡◌, ◌≤◌, ◌+◌, ◌++◌, ℕ, List, filter, length, drop, take, vec_len, vec_capacity}
-use Rattle.rc_protocol.specs.Shard.{Mark, mark_cmp, added_all, is_taken, is_free, holder, reader}
+use Rattle.std.proofs.Common.{◌≡◌, drop}
+use Rattle.rc_protocol.specs.Shard.{reader}
 use Rattle.rc_locks.proofs.parts.reader.Given as goal
 
 abbrev pub invariant-loop-entry : goal.invariant-loop-entry
