@@ -55,6 +55,10 @@ fn texts(rt: HostRuntime) -> Result<(), Fail> {
             "t1 committed\nsettled 31\n32 d1 t1 Decided t1 commit\nsettled 1\nd1.s1 x 1 free a\n",
         ),
         (
+            "world 3 1\nbegin t1\nread t1 x\nlose 1 2 3\nretry t1\nsettle\nwrite t1 x a\ncommit t1\nsettle\ncatch d1.s1\nsettle\n",
+            "t1 read x 0 -\nsettled 7\nt1 committed\nsettled 24\nsettled 2\n",
+        ),
+        (
             "world 3 1 3 1 1\nbegin t1\nwrite t1 x a\ncommit t1\nsettle\norder\n",
             "t1 committed\nsettled 32\norder t1\n",
         ),

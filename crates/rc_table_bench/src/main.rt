@@ -7,7 +7,7 @@ mod locks;
 mod net;
 mod versions;
 
-use rc_locks::PlainLocks;
+use rc_locks::{Locks, PlainLocks};
 use std::alloc::Global;
 use std::env;
 
@@ -21,6 +21,7 @@ const LARGEST: u32 = 4_000_000;
 fn run(rt: &impl Print, alloc: Global, table: &str, size: u32) -> anyhow::Result<()> {
     let answers = match table {
         "versions" => versions::run(alloc, size)?,
+        "locks" => locks::run::<Locks>(alloc, size)?,
         "plain_locks" => locks::run::<PlainLocks>(alloc, size)?,
         "net" => net::run(alloc, size)?,
         _ => String::from_str(alloc, "no such table")?,
@@ -33,7 +34,7 @@ fn main(rt: HostRuntime) -> anyhow::Result<()> {
     let alloc = rt.alloc();
     let mut words = env::args(&rt)?.skip(1);
     let Some(table) = words.next() else {
-        for table in ["versions", "plain_locks", "net"] {
+        for table in ["versions", "locks", "plain_locks", "net"] {
             run(&rt, alloc, table, SMALL)?;
         }
         return Ok(());
