@@ -132,6 +132,7 @@ impl Net {
         ensures pending { self.new.pending ≡ self.old.pending }
         ensures ok { OnOk result (0 < self.new.spare) }
         ensures kept { self.old.spare ≤ self.new.spare }
+        ensures succeeds { 0 < self.old.spare → IsOk result }
         ensures err { OnErr result (self.new ≡ self.old) }
     {
         self.parcels.reserve(1)?;
