@@ -92,11 +92,6 @@ rooms_set old new key cell t set room k had = subst (HasRooms t) (sym (set k)) (
     at true = room
     at false = had
 
-pub rooms_here : (old new : Table (List ℕ) Holders) (key : List ℕ) (cell : Holders) (t : ℕ) → IsSet key_cmp old new key (Some cell) → HasRooms t (Some cell)
-    → (k : List ℕ) → same_key key k ≡ true → HasRooms t (found key_cmp new k)
-rooms_here old new key cell t set room k same =
-    subst (HasRooms t) (sym (set k ∙ ap (λ b. cond b (Some cell) (found key_cmp old k)) (sym (texts_ties key k) ∙ same))) room
-
 pub and_if : (a b : Bool) (xs ys : List ℕ) → (if a then (if b then xs else ys) else ys) ≡ (if a && b then xs else ys)
 and_if true b xs ys = refl
 and_if false b xs ys = refl

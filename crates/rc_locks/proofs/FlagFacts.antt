@@ -1,5 +1,5 @@
 -- What a lock that changes makes of the table.
-use Rattle.std.proofs.Common.{◌≡◌, ℕ, Bool, true, false, not, ◌||◌, ◌&&◌, ◌==◌, cond, if◌then◌else◌, List, [], ◌∷◌, Option, Some, None, is_some, IsSome, Vec, Global, refl, sym, ap, ◌∙◌, arith}
+use Rattle.std.proofs.Common.{◌≡◌, ℕ, Bool, true, false, not, ◌||◌, ◌&&◌, ◌==◌, cond, if◌then◌else◌, List, [], ◌∷◌, Option, Some, None, is_some, IsSome, refl, sym, ap, ◌∙◌, arith}
 use Rattle.std.specs.declared.cmp.Ordering.{Ordering}
 use Rattle.std.specs.declared.cmp.Ordering.TheVariants.{Less, Equal, Greater}
 use Rattle.std.specs.Ordering.{nat_cmp, is_eq, ordering_then}
@@ -12,7 +12,7 @@ use Rattle.rc_body.specs.Bodies.{writes}
 use Rattle.rc_body.specs.declared.entry.Entry.{Entry}
 use Rattle.rc_protocol.specs.Shard.{Mark, mark_cmp, is_taken}
 use Rattle.rc_locks.specs.declared.flags.Lock.{Lock}
-use Rattle.rc_locks.specs.Flags.{is_plain, is_lost, plain_at, lost_at, AreTxs, has_place, same_mark, IsTurned, with_plain, without_plain, taken_away, turned_where, is_other_at, taken_by, given_back, let_go, is_one_of, IsCovered}
+use Rattle.rc_locks.specs.Flags.{is_plain, is_lost, plain_at, lost_at, AreTxs, has_place, same_mark, IsTurned, with_plain, without_plain, taken_away, turned_where, is_other_at, taken_by, given_back, let_go, is_one_of}
 use Rattle.rc_locks.proofs.MarkLists.{mark_exact, from_same}
 
 -- the lock of the mark is written, where there is one
@@ -91,9 +91,6 @@ places_stay turn old new turned m = ap is_some (turned m) ∙ is_some-map (turn 
 
 pub txs_stay : (turn : Mark → Lock → Lock) (old new : Table Mark Lock) → IsTurned turn old new → AreTxs old → AreTxs new
 txs_stay turn old new turned txs m here = txs m (sym (places_stay turn old new turned m) ∙ here)
-
-pub covered_stays : (turn : Mark → Lock → Lock) (old new : Table Mark Lock) (index : Table ℕ (Vec (List ℕ) Global)) → IsTurned turn old new → IsCovered old index → IsCovered new index
-covered_stays turn old new index turned covered m here = covered m (sym (places_stay turn old new turned m) ∙ here)
 
 -- A TRANSACTION'S KEYS
 pub number_test : (t u : ℕ) → (u == t) ≡ is_eq (nat_cmp t u)

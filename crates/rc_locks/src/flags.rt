@@ -315,7 +315,7 @@ fn drop_bare(index: &mut KeyIndex, tx: TxId)
     }
 }
 
-/// Takes the place of the mark away, if it has neither a plain lock nor lost one.
+/// Takes the place of the mark away, if it has no plain lock and lost none.
 pub fn drop_idle(locks: &mut LockMap, index: &mut KeyIndex, mark: &Mark)
     requires rises { Rises locks.old.entries }
     requires txs { AreTxs locks.old.entries }
