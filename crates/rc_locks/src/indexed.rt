@@ -8,9 +8,6 @@ ghost use Rattle.rc_protocol.specs.Shard.{mark_cmp};
 ghost use Rattle.rc_locks.specs.Cells.{IsRising, IsIndexed, IsRoomFor};
 ghost use Rattle.rc_locks.specs.Flags.{lost_at, plain_marks, lost_marks, Rises, AreTxs, IsCovered, ArePlaced};
 
-#[cfg(test)]
-mod tests;
-
 use crate::cells::{self, Cells};
 use crate::checks::refusal;
 use crate::flags::{KeyIndex, LockMap, lock_of};

@@ -2,7 +2,7 @@
 use crate::{
     Answer, Answers, Asked, LockAnswer, LockCall, LockTable, Locks, PlainLocks, run_locks,
 };
-use rc_body::{Body, Entry};
+use rc_body::{Body, Entry, Parts};
 use rc_ids::{Key, TxId, Val, Version};
 use rc_versions::Versions;
 use std::alloc::Global;
@@ -52,6 +52,23 @@ fn takes_a_lock<L: LockTable>(rt: &impl Abort, alloc: Global) -> Result<(), Fail
 fn a_write_takes_a_lock_and_gives_it_back(rt: HostRuntime) -> Result<(), Fail> {
     takes_a_lock::<PlainLocks>(&rt, rt.alloc())?;
     takes_a_lock::<Locks>(&rt, rt.alloc())
+}
+
+/// A restored part holds the key that it writes.
+fn restores<L: LockTable>(rt: &impl Abort, alloc: Global) -> Result<(), Fail> {
+    let key = Key::new(b"x")?;
+    let mut parts = Parts::new(alloc);
+    parts.push(TxId(7), write_of(alloc, &key)?)?;
+    let locks = L::restore(alloc, parts)?;
+    assert!(rt; locks.holder(&key) == Some(TxId(7)));
+    assert!(rt; locks.would_ask(TxId(1), &key) == Asked::Waits);
+    Ok(())
+}
+
+#[test]
+fn restored_parts_hold_their_keys(rt: HostRuntime) -> Result<(), Fail> {
+    restores::<PlainLocks>(&rt, rt.alloc())?;
+    restores::<Locks>(&rt, rt.alloc())
 }
 
 /// What is answered where a transaction reads the key, a second one writes it, a third one asks for it, may take this back, and then the
