@@ -2,7 +2,7 @@
 ghost use Rattle.std.specs.Prelude.{◌≡◌, ◌<◌, [], ◌∷◌, ◌++◌, true, false, length, None, OnOk, IsErrOf, if◌then◌else◌};
 ghost use Rattle.rc_ids.specs.Cluster.{is_dc as is_dc_lem};
 ghost use Rattle.rc_protocol.specs.Client.{new_client, is_open as is_open_lem, slot_of, do_read, do_write, do_commit, do_cancel, do_retry, do_vanish, client_row, drops_read, proposes_again, asks_again, waiting_keys, is_proposed, reads_on, asks_new, reads_slot, proposes, goes_on, on_granted, on_voted, on_refused, on_decided, learns, gives_up};
-ghost use Rattle.rc_protocol.specs.Refusals.{is_full as is_full_lem};
+ghost use Rattle.rc_protocol.specs.Client.{is_full as is_full_lem};
 ghost use Rattle.rc_client.specs.Acts.{Says, Does, completes_at};
 ghost use Rattle.rc_client.specs.Phases.{phase_of};
 ghost use Rattle.rc_client.specs.Slots.{waits_at};

@@ -6,7 +6,7 @@ ghost use Rattle.rc_record.specs.CoordState.{new_durable, coord_applied};
 ghost use Rattle.rc_record.specs.declared.record.Record.{Record as RecordOf};
 ghost use Rattle.rc_protocol.specs.Coordinator.{coord_row, do_take, do_catch};
 ghost use Rattle.rc_protocol.specs.Nodes.{CoordNode, coord_started, coord_stopped, coord_replayed, logged, applied};
-ghost use Rattle.rc_protocol.specs.Votes.{is_vote as is_vote_lem};
+ghost use Rattle.rc_protocol.specs.Nodes.{is_vote as is_vote_lem};
 ghost use Rattle.rc_coord.specs.Rows.{Handled, Spent};
 ghost use Rattle.rc_coord.specs.declared.fault.CoordFault.TheVariants.{BallotsSpent};
 

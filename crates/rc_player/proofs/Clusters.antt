@@ -12,7 +12,7 @@ use Rattle.rc_script.specs.declared.command.Command.TheVariants as commands
 use Rattle.rc_script.specs.declared.script.NumberedCommand.{NumberedCommand}
 use Rattle.rc_script.specs.Spelling.{IsIn, AreWeights, IsCommandOf}
 use Rattle.rc_script.specs.Grammar.{IsOther, MayFollow, FollowsWorld, commands_of}
-use Rattle.rc_protocol.specs.Text.{split_keys}
+use Rattle.rc_runs.specs.Text.{split_keys}
 
 -- ---- split keys
 

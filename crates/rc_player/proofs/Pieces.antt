@@ -13,9 +13,9 @@ use Rattle.rc_ports.specs.declared.status.Status.TheVariants as statuses
 use Rattle.rc_ports.specs.Streams.{grown}
 use Rattle.rc_report.specs.declared.line.Line.{Line}
 use Rattle.rc_script.specs.declared.script.NumberedCommand.{NumberedCommand}
-use Rattle.rc_protocol.specs.Session.{Session, Halt}
-use Rattle.rc_protocol.specs.Script.{LineDone, performs}
-use Rattle.rc_protocol.specs.Text.{Played, piece_of, ending_of, last_lines, halted, then_played, all_done, plays}
+use Rattle.rc_runs.specs.Session.{Session, Halt}
+use Rattle.rc_runs.specs.Script.{LineDone, performs}
+use Rattle.rc_runs.specs.Text.{Played, piece_of, ending_of, last_lines, halted, then_played, all_done, plays}
 use Rattle.rc_player.specs.declared.stop.Stop.{Stop}
 use Rattle.rc_player.specs.declared.stop.Stop.TheVariants.{Failed, NoMemory}
 use Rattle.rc_player.specs.Play.{status_of, TookFront}

@@ -8,9 +8,9 @@ use Rattle.rc_ports.specs.declared.status.Status.TheVariants as statuses
 use Rattle.rc_script.specs.declared.command.Command.{Command}
 use Rattle.rc_script.specs.declared.command.Command.TheVariants as commands
 use Rattle.rc_script.specs.declared.script.NumberedCommand.{NumberedCommand}
-use Rattle.rc_protocol.specs.Session.{Session}
-use Rattle.rc_protocol.specs.Stored.{in_memory, new_session}
-use Rattle.rc_protocol.specs.Text.{Played, all_done, plays, plays_from, plays_in, plays_script}
+use Rattle.rc_runs.specs.Session.{Session}
+use Rattle.rc_runs.specs.Stored.{in_memory, new_session}
+use Rattle.rc_runs.specs.Text.{Played, all_done, plays, plays_from, plays_in, plays_script}
 use Rattle.rc_player.specs.declared.stop.Stop.{Stop}
 use Rattle.rc_player.specs.Written.{Wrote, LaysOut}
 use Rattle.rc_player.proofs.Pieces.{grown-nothing}

@@ -4,8 +4,8 @@ use Rattle.std.specs.List.{concat}
 use Rattle.rc_ports.specs.declared.status.Status.{Status}
 use Rattle.rc_ports.specs.declared.status.Status.TheVariants as statuses
 use Rattle.rc_ports.specs.Streams.{grown}
-use Rattle.rc_protocol.specs.Stored.{in_memory}
-use Rattle.rc_protocol.specs.Text.{Ending, Done, BadScript, LimitMet, FarmFault, BadLog, played}
+use Rattle.rc_runs.specs.Stored.{in_memory}
+use Rattle.rc_runs.specs.Text.{Ending, Done, BadScript, LimitMet, FarmFault, BadLog, played}
 
 abbrev pub status_of : Ending → Status
 status_of Done = statuses.Done

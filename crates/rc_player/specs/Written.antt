@@ -9,8 +9,8 @@ use Rattle.rc_report.specs.Lines.{line_text}
 use Rattle.rc_script.specs.declared.command.Command.{Command}
 use Rattle.rc_script.specs.declared.command.Command.TheVariants as commands
 use Rattle.rc_script.specs.declared.script.NumberedCommand.{NumberedCommand}
-use Rattle.rc_protocol.specs.Script.{LineDone}
-use Rattle.rc_protocol.specs.Text.{Played, ending_of, last_lines, layout_of}
+use Rattle.rc_runs.specs.Script.{LineDone}
+use Rattle.rc_runs.specs.Text.{Played, ending_of, last_lines, layout_of}
 use Rattle.rc_player.specs.declared.stop.Stop.{Stop}
 use Rattle.rc_player.specs.declared.stop.Stop.TheVariants.{Failed, NoMemory}
 use Rattle.rc_player.specs.Play.{status_of, TookAll, TookPart, TookFront}

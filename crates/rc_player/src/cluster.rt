@@ -3,7 +3,7 @@ ghost use Rattle.std.specs.Prelude.{◌≡◌, [], ◌∷◌, ◌++◌, None, If
 ghost use Rattle.rc_ids.specs.Cluster.{layout, cluster_fault, equal_weights};
 ghost use Rattle.rc_script.specs.Grammar.{IsScript, FollowsWorld, commands_of};
 ghost use Rattle.rc_script.specs.Spelling.{IsCommandOf};
-ghost use Rattle.rc_protocol.specs.Text.{layout_of, split_keys as split_keys_lem};
+ghost use Rattle.rc_runs.specs.Text.{layout_of, split_keys as split_keys_lem};
 ghost use Rattle.rc_player.specs.Written.{LaysOut};
 
 use rc_ids::{Cluster, Key, NoMemory};

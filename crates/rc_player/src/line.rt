@@ -1,7 +1,7 @@
 // One line of a script: run, and its text written as one piece.
 ghost use Rattle.std.specs.Prelude.{◌≡◌, ◌≤◌, [], None, Some, Ok, IfOk, IfErr, IfSome};
 ghost use Rattle.rc_ports.specs.Causes.{Rose};
-ghost use Rattle.rc_protocol.specs.Script.{performs};
+ghost use Rattle.rc_runs.specs.Script.{performs};
 ghost use Rattle.rc_player.specs.Play.{IsWhole};
 ghost use Rattle.rc_player.specs.Written.{Took, line_texts, lines_of, end_in};
 

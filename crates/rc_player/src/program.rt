@@ -1,7 +1,7 @@
 // The top call: from the source's script to the sink's text.
 ghost use Rattle.std.specs.Prelude.{◌≡◌, ◌⊎◌, ◌<◌, ◌≤◌, ◌↔◌, [], length, Some, IfSome};
 ghost use Rattle.rc_ports.specs.Causes.{Rose};
-ghost use Rattle.rc_protocol.specs.Text.{most_script_bytes};
+ghost use Rattle.rc_runs.specs.Text.{most_script_bytes};
 ghost use Rattle.rc_player.specs.Play.{IsAnswer, IsWhole, TookAll, TookPart, TookFront, text_of, end_of};
 
 use crate::script::{MOST_SCRIPT_BYTES, play_bytes};

@@ -2,8 +2,8 @@
 ghost use Rattle.std.specs.Prelude.{◌≡◌, ◌≤◌, [], ◌∷◌, IfOk, IfErr};
 ghost use Rattle.rc_ports.specs.Causes.{Rose};
 ghost use Rattle.rc_script.specs.Grammar.{IsScript, commands_of};
-ghost use Rattle.rc_protocol.specs.Stored.{in_memory};
-ghost use Rattle.rc_protocol.specs.Text.{plays, plays_script, plays_bytes};
+ghost use Rattle.rc_runs.specs.Stored.{in_memory};
+ghost use Rattle.rc_runs.specs.Text.{plays, plays_script, plays_bytes};
 ghost use Rattle.rc_player.specs.Play.{IsWhole};
 ghost use Rattle.rc_player.specs.Written.{Took, Wrote, line_texts};
 

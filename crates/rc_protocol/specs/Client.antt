@@ -1,5 +1,5 @@
 -- The rows of a client, which buffers its writes, reads from a quorum and proposes its own commit at ballot 0.
-use Rattle.std.specs.Prelude.{ℕ, Bool, true, false, cond, not, ◌||◌, ◌&&◌, List, [], ◌∷◌, ◌++◌, map, Option, Some, None, nat_lt, ◌==◌, if◌then◌else◌}
+use Rattle.std.specs.Prelude.{ℕ, Bool, true, false, cond, not, ◌||◌, ◌&&◌, List, [], ◌∷◌, ◌++◌, map, length, Option, Some, None, nat_lt, nat_le, is_none, ◌==◌, if◌then◌else◌}
 use Rattle.std.specs.Ordering.{nat_cmp}
 use Rattle.std.specs.List.{list_any, flat_map}
 use Rattle.rc_ids.specs.Tables.{Table, member, added, maybe}
@@ -46,12 +46,17 @@ pub record Client : Type 0 where
   pub votes : Table ℕ Standing
   pub outcome : Option Decision
 
--- what a row does; where a version that is written has no next one it does nothing, and says so
+-- why a client refuses: it does not read, write and commit any more; it has 32 keys, and this would be one more; a version that is
+-- written has no next one
+pub data ClientRefusal : Type 0 where
+  NotOpen TooManyKeys KeyWornOut : ClientRefusal
+
+-- what a row does, or why it is refused: then it does nothing
 pub record ClientAct : Type 0 where
   pub after : Client
   pub sends : Sends
   pub lines : List Line
-  pub worn : Bool
+  pub refused : Option ClientRefusal
 
 abbrev pub new_client : Client
 new_client = record { phase = Open; slots = []; refusals = []; votes = []; outcome = None }
@@ -83,10 +88,10 @@ is_over Vanished = true
 is_over _ = false
 
 abbrev pub in_phase : Client → Phase → Client
-in_phase x phase = record { phase = phase; slots = x.slots; refusals = x.refusals; votes = x.votes; outcome = x.outcome }
+in_phase x phase = record x { phase = phase }
 
 abbrev pub with_slots : Client → List Slot → Client
-with_slots x slots = record { phase = x.phase; slots = slots; refusals = x.refusals; votes = x.votes; outcome = x.outcome }
+with_slots x slots = record x { slots = slots }
 
 -- SLOTS
 abbrev pub slot_of : List Slot → List ℕ → Option Slot
@@ -99,10 +104,10 @@ slot_set [] slot = []
 slot_set (s ∷ ss) slot = cond (same_key s.key slot.key) (slot ∷ ss) (s ∷ slot_set ss slot)
 
 abbrev pub with_read : Slot → KeyRead → Slot
-with_read s read = record { key = s.key; write = s.write; read = read }
+with_read s read = record s { read = read }
 
 abbrev pub with_write : Slot → List ℕ → Slot
-with_write s value = record { key = s.key; write = Some value; read = s.read }
+with_write s value = record s { write = Some value }
 
 abbrev pub is_under_way : KeyRead → Bool
 is_under_way (UnderWay prints grants) = true
@@ -135,16 +140,20 @@ body_of slots = map entry_of slots
 
 -- ACTS
 abbrev pub client_stays : Client → ClientAct
-client_stays x = record { after = x; sends = []; lines = []; worn = false }
+client_stays x = record { after = x; sends = []; lines = []; refused = None }
 
 abbrev pub client_says : Client → Sends → ClientAct
-client_says x ms = record { after = x; sends = ms; lines = []; worn = false }
+client_says x ms = record { after = x; sends = ms; lines = []; refused = None }
 
 abbrev pub client_prints : Client → Line → ClientAct
-client_prints x line = record { after = x; sends = []; lines = line ∷ []; worn = false }
+client_prints x line = record { after = x; sends = []; lines = line ∷ []; refused = None }
 
-abbrev pub wears : Client → ClientAct
-wears x = record { after = x; sends = []; lines = []; worn = true }
+abbrev pub client_refuses : Client → ClientRefusal → ClientAct
+client_refuses x reason = record { after = x; sends = []; lines = []; refused = Some reason }
+
+-- where an act is refused the client is as it was before the event
+abbrev pub unless_refused : Client → ClientAct → ClientAct
+unless_refused before act = maybe act.refused act (client_refuses before)
 
 abbrev pub asks : Layout → ℕ → List ℕ → Sends
 asks c t k = to_each c.dcs (λ d. one (shard_server d (shard_of c k)) (ReadAsk t k))
@@ -153,13 +162,19 @@ asks c t k = to_each c.dcs (λ d. one (shard_server d (shard_of c k)) (ReadAsk t
 abbrev pub is_worn : List Slot → Bool
 is_worn slots = list_any (λ (s : Slot). wears_out (entry_of s)) slots
 
--- where a version is worn out, the client stays as it was before the event
-abbrev pub proposes : Layout → ℕ → Client → Client → ClientAct
-proposes c t before x =
-    if is_worn x.slots then wears before
+abbrev pub proposes : Layout → ℕ → Client → ClientAct
+proposes c t x =
+    if is_worn x.slots then client_refuses x KeyWornOut
     else client_says (in_phase x Proposed) (to_all c (Propose t 0 (Commit (body_of x.slots))))
 
 -- COMMANDS
+abbrev pub most_keys : ℕ
+most_keys = 32
+
+-- the key would be one too many
+abbrev pub is_full : Client → List ℕ → Bool
+is_full x k = is_none (slot_of x.slots k) && nat_le most_keys (length x.slots)
+
 abbrev pub asks_new : Layout → ℕ → Client → List ℕ → ClientAct
 asks_new c t x k = client_says (with_slots x (x.slots ++ record { key = k; write = None; read = UnderWay true [] } ∷ [])) (asks c t k)
 
@@ -197,7 +212,7 @@ abbrev pub do_commit : Layout → ℕ → Client → ClientAct
 do_commit c t x =
     if waits_for_read (reads_begun x.slots)
     then client_says (in_phase (with_slots x (reads_begun x.slots)) Committing) (asks_all c t (unread_keys x.slots))
-    else proposes c t x x
+    else proposes c t x
 
 -- a read that is under way is dropped, and its key with it unless it is written
 abbrev pub read_dropped : List ℕ → Slot → List Slot
@@ -236,17 +251,16 @@ abbrev pub read_line : ℕ → Slot → List Grant → List Line
 read_line t s grants = if prints_of s.read then ReadLine t s.key (best_grant grants).0 (best_grant grants).1 ∷ [] else []
 
 -- a committing client that waits for no read proposes
-abbrev pub goes_on : Layout → ℕ → Client → Client → ClientAct
-goes_on c t before x = if is_committing x.phase && not (waits_for_read x.slots) then proposes c t before x else client_stays x
+abbrev pub goes_on : Layout → ℕ → Client → ClientAct
+goes_on c t x = if is_committing x.phase && not (waits_for_read x.slots) then proposes c t x else client_stays x
 
-abbrev pub completes_then : Sends → List Line → ClientAct → ClientAct
-completes_then ms lines act =
-    if act.worn then act
-    else record { after = act.after; sends = ms ++ act.sends; lines = lines; worn = false }
+-- before that the cancels go, and the line of the read
+abbrev pub after_read : Sends → List Line → ClientAct → ClientAct
+after_read ms lines act = record act { sends = ms ++ act.sends; lines = lines }
 
 abbrev pub completes : Layout → ℕ → Client → Slot → List Grant → ClientAct
 completes c t x s grants =
-    completes_then (cancels c t s.key grants) (read_line t s grants) (goes_on c t x (with_slots x (slot_set x.slots (completed s grants))))
+    unless_refused x (after_read (cancels c t s.key grants) (read_line t s grants) (goes_on c t (with_slots x (slot_set x.slots (completed s grants)))))
 
 abbrev pub with_grant : Slot → Grant → List Grant
 with_grant s g = grants_of s.read ++ g ∷ []
@@ -272,15 +286,10 @@ on_granted c t x k g =
 
 -- VOTES, REFUSALS, OUTCOMES
 abbrev pub learns : ℕ → Client → Decision → ClientAct
-learns t x o = record {
-  after = record { phase = Done; slots = x.slots; refusals = x.refusals; votes = x.votes; outcome = Some o };
-  sends = [];
-  lines = Learned t (outcome_of o) ∷ [];
-  worn = false;
-}
+learns t x o = client_prints (record x { phase = Done; outcome = Some o }) (Learned t (outcome_of o))
 
 abbrev pub with_vote : Client → ℕ → ℕ → Decision → Client
-with_vote x b d o = record { phase = x.phase; slots = x.slots; refusals = x.refusals; votes = counted x.votes b d o; outcome = x.outcome }
+with_vote x b d o = record x { votes = counted x.votes b d o }
 
 abbrev pub on_voted : Layout → ℕ → Client → ℕ → ℕ → Decision → ClientAct
 on_voted c t x b d o =
@@ -291,7 +300,7 @@ abbrev pub on_decided : ℕ → Client → Decision → ClientAct
 on_decided t x o = if is_over x.phase then client_stays x else learns t x o
 
 abbrev pub with_refusal : Client → ℕ → Client
-with_refusal x d = record { phase = x.phase; slots = x.slots; refusals = added nat_cmp x.refusals d; votes = x.votes; outcome = x.outcome }
+with_refusal x d = record x { refusals = added nat_cmp x.refusals d }
 
 -- the refusing datacentres are a quorum now and were none before
 abbrev pub gives_up : Layout → ℕ → List ℕ → ℕ → Sends
@@ -305,7 +314,7 @@ counts_refusal x b d = (b == 0) && (is_proposed x.phase && not (member nat_cmp x
 abbrev pub on_refused : Layout → ℕ → Client → ℕ → ℕ → Reason → ClientAct
 on_refused c t x b d reason =
     if counts_refusal x b d
-    then record { after = with_refusal x d; sends = gives_up c t x.refusals d; lines = RefusedLine t d reason ∷ []; worn = false }
+    then record { after = with_refusal x d; sends = gives_up c t x.refusals d; lines = RefusedLine t d reason ∷ []; refused = None }
     else client_stays x
 
 -- WHAT A CLIENT WAITS FOR IS SENT AGAIN
@@ -333,10 +342,10 @@ do_retry c t x =
     if is_proposed x.phase then client_says x (proposes_again c t x)
     else (if reads_on x.phase then client_says x (asks_again c t x.slots (waiting_keys x.slots)) else client_stays x)
 
--- a message that no row names is ignored, and so is one that names a datacentre outside the world
+-- a message that no row names is ignored, and so is one of another transaction or one that names a datacentre outside the world
 abbrev pub client_row : Layout → ℕ → Client → Msg → ClientAct
-client_row c t x (Granted u k d version value) = if is_dc c d then on_granted c t x k (record { dc = d; version = version; value = value }) else client_stays x
-client_row c t x (Voted u b d o) = if is_dc c d then on_voted c t x b d o else client_stays x
-client_row c t x (Refused u b d reason) = if is_dc c d then on_refused c t x b d reason else client_stays x
-client_row c t x (Decided u o) = on_decided t x o
+client_row c t x (Granted u k d version value) = if (u == t) && is_dc c d then on_granted c t x k (record { dc = d; version = version; value = value }) else client_stays x
+client_row c t x (Voted u b d o) = if (u == t) && is_dc c d then on_voted c t x b d o else client_stays x
+client_row c t x (Refused u b d reason) = if (u == t) && is_dc c d then on_refused c t x b d reason else client_stays x
+client_row c t x (Decided u o) = if u == t then on_decided t x o else client_stays x
 client_row c t x _ = client_stays x

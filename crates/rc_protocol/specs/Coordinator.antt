@@ -19,7 +19,7 @@ use Rattle.rc_record.specs.declared.record.Record.{Record}
 use Rattle.rc_record.specs.declared.record.Record.TheVariants.{Promised, Accepted, Decided as OutcomesDecided}
 pub use Rattle.rc_record.specs.declared.coord.CoordDurable.{CoordDurable}
 pub use Rattle.rc_record.specs.CoordState.{new_durable, promise_of, outcome_of, promise_raised, outcomes_joined, coord_applied}
-use Rattle.rc_protocol.specs.Messages.{Sends, coordinator, shard_server, client_of, one, to_each, to_all}
+use Rattle.rc_protocol.specs.Messages.{Sends, coordinator, shard_server, client_of, one, to_each, to_all, most_entries}
 
 -- a transaction for which this datacentre's shards are asked, and those that said yes
 pub record Gather : Type 0 where
@@ -65,6 +65,14 @@ coord_stays v = record { logs = None; after = v; sends = []; spent = false }
 abbrev pub coord_says : CoordVolatile → Sends → CoordAct
 coord_says v ms = record { logs = None; after = v; sends = ms; spent = false }
 
+-- what is done of a transaction that is decided, and of one that is not
+abbrev pub if_decided : {A : Type 0} → CoordDurable → ℕ → (Decision → A) → A → A
+if_decided s t decided undecided = maybe (outcome_of s.outcomes t) undecided decided
+
+-- the outcome is told
+abbrev pub tells : CoordVolatile → Party → ℕ → Decision → CoordAct
+tells v to t outcome = coord_says v (one to (Decided t outcome))
+
 -- the proposer of a ballot: the client of ballot 0, else its owner's coordinator
 abbrev pub proposer : Layout → ℕ → ℕ → Party
 proposer c t b = if b == 0 then client_of t else coordinator (owner_of c b)
@@ -84,7 +92,7 @@ abbrev pub finishes : Layout → ℕ → ℕ → Decision → Sends
 finishes c d t o = to_each c.shards (finish_to c d t o)
 
 abbrev pub forgotten : CoordVolatile → ℕ → CoordVolatile
-forgotten v t = record { gathers = without nat_cmp v.gathers t; takeovers = without nat_cmp v.takeovers t; votes = without nat_cmp v.votes t; places = v.places }
+forgotten v t = record v { gathers = without nat_cmp v.gathers t; takeovers = without nat_cmp v.takeovers t; votes = without nat_cmp v.votes t }
 
 abbrev pub learns : Layout → ℕ → CoordVolatile → ℕ → Decision → CoordAct
 learns c d v t o = record { logs = Some (OutcomesDecided ((t, o) ∷ [])); after = forgotten v t; sends = finishes c d t o; spent = false }
@@ -96,7 +104,7 @@ opening b is_eager = record { ballot = b; is_eager = is_eager; has_proposed = fa
 abbrev pub opens : Layout → CoordVolatile → ℕ → Bool → ℕ → CoordAct
 opens c v t is_eager b = record {
   logs = Some (Promised t b);
-  after = record { gathers = v.gathers; takeovers = put nat_cmp v.takeovers t (opening b is_eager); votes = v.votes; places = v.places };
+  after = record v { takeovers = put nat_cmp v.takeovers t (opening b is_eager) };
   sends = to_all c (Ask t b);
   spent = false;
 }
@@ -113,7 +121,7 @@ abbrev pub has_all : Layout → Gather → Bool
 has_all c g = list_all (member nat_cmp g.yes) (touched c g.body)
 
 abbrev pub with_gather : CoordVolatile → ℕ → Gather → CoordVolatile
-with_gather v t g = record { gathers = put nat_cmp v.gathers t g; takeovers = v.takeovers; votes = v.votes; places = v.places }
+with_gather v t g = record v { gathers = put nat_cmp v.gathers t g }
 
 -- the shard is asked, where it is touched and has not said yes
 abbrev pub prepare_to : Layout → ℕ → ℕ → Gather → ℕ → Sends
@@ -130,7 +138,7 @@ abbrev pub gather_at : CoordVolatile → ℕ → ℕ → List Entry → Gather
 gather_at v t b body =
     maybe (found nat_cmp v.gathers t)
     (record { ballot = b; body = body; yes = [] })
-    (λ g. record { ballot = max g.ballot b; body = g.body; yes = g.yes })
+    (λ g. record g { ballot = max g.ballot b })
 
 abbrev pub takes_proposal : Layout → ℕ → CoordVolatile → ℕ → ℕ → Decision → CoordAct
 takes_proposal c d v t b Abort = accepts c d v t b Abort
@@ -146,19 +154,17 @@ accepted_at (Some a) b = if a.0 == b then Some a.1 else None
 
 abbrev pub on_propose : Layout → ℕ → CoordDurable → CoordVolatile → ℕ → ℕ → Decision → CoordAct
 on_propose c d s v t b o =
-    maybe (outcome_of s.outcomes t)
+    if_decided s t (tells v (proposer c t b) t)
     (if nat_lt b (promise_of s.promises t)
     then refuses c d v t b (PromisedHigher (promise_of s.promises t))
     else maybe (accepted_at (found nat_cmp s.accepted t) b) (takes_proposal c d v t b o) (λ old. coord_says v (vote c d t b old)))
-    (λ outcome. coord_says v (one (proposer c t b) (Decided t outcome)))
 
 -- A SHARD ANSWERS
 -- the gather that waits for this shard: the transaction is undecided, the shard is touched and has not said yes
 abbrev pub waiting_gather : Layout → CoordDurable → CoordVolatile → ℕ → ℕ → Option Gather
 waiting_gather c s v t sh =
-    maybe (outcome_of s.outcomes t)
+    if_decided s t (λ _. None)
     (maybe (found nat_cmp v.gathers t) None (λ g. if touches c g.body sh && not (member nat_cmp g.yes sh) then Some g else None))
-    (λ _. None)
 
 abbrev pub said_yes : Layout → ℕ → CoordDurable → CoordVolatile → ℕ → Gather → CoordAct
 said_yes c d s v t g =
@@ -169,7 +175,7 @@ said_yes c d s v t g =
     else coord_stays (with_gather v t g)
 
 abbrev pub with_yes : Gather → ℕ → Gather
-with_yes g sh = record { ballot = g.ballot; body = g.body; yes = added nat_cmp g.yes sh }
+with_yes g sh = record g { yes = added nat_cmp g.yes sh }
 
 abbrev pub on_prepared : Layout → ℕ → CoordDurable → CoordVolatile → ℕ → ℕ → Option Reason → CoordAct
 on_prepared c d s v t sh None = maybe (waiting_gather c s v t sh) (coord_stays v) (λ g. said_yes c d s v t (with_yes g sh))
@@ -189,11 +195,10 @@ promises_at c d s v t b = record {
 
 abbrev pub on_ask : Layout → ℕ → CoordDurable → CoordVolatile → ℕ → ℕ → CoordAct
 on_ask c d s v t b =
-    maybe (outcome_of s.outcomes t)
+    if_decided s t (tells v (coordinator (owner_of c b)) t)
     (if nat_lt b (promise_of s.promises t)
     then coord_says v (one (coordinator (owner_of c b)) (Refused t b d (PromisedHigher (promise_of s.promises t))))
     else promises_at c d s v t b)
-    (λ outcome. coord_says v (one (coordinator (owner_of c b)) (Decided t outcome)))
 
 -- A PROMISE COMES
 -- of reports at one ballot the first heard counts
@@ -203,10 +208,7 @@ better None (Some report) = Some report
 better (Some old) (Some report) = if nat_lt old.0 report.0 then Some report else Some old
 
 abbrev pub hears : TakeOver → ℕ → Option (ℕ × Decision) → TakeOver
-hears k from report = record {
-  ballot = k.ballot;
-  is_eager = k.is_eager;
-  has_proposed = k.has_proposed;
+hears k from report = record k {
   heard = added nat_cmp k.heard from;
   silent = if is_some report then k.silent else added nat_cmp k.silent from;
   best = better k.best report;
@@ -232,15 +234,15 @@ chooses c k = if k.is_eager then chooses_eagerly c k else chooses_patiently c k
 -- the open take-over that still waits for this datacentre
 abbrev pub waiting_takeover : CoordDurable → CoordVolatile → ℕ → ℕ → ℕ → Option TakeOver
 waiting_takeover s v t b from =
-    maybe (outcome_of s.outcomes t)
+    if_decided s t (λ _. None)
     (maybe (found nat_cmp v.takeovers t) None (λ k. if (k.ballot == b) && (not k.has_proposed && not (member nat_cmp k.heard from)) then Some k else None))
-    (λ _. None)
 
 abbrev pub with_takeover : CoordVolatile → ℕ → TakeOver → CoordVolatile
-with_takeover v t k = record { gathers = v.gathers; takeovers = put nat_cmp v.takeovers t k; votes = v.votes; places = v.places }
+with_takeover v t k = record v { takeovers = put nat_cmp v.takeovers t k }
 
+-- it proposes once, and keeps no report after that
 abbrev pub proposed : TakeOver → TakeOver
-proposed k = record { ballot = k.ballot; is_eager = k.is_eager; has_proposed = true; heard = k.heard; silent = k.silent; best = k.best }
+proposed k = record k { has_proposed = true; best = None }
 
 abbrev pub goes_on : Layout → CoordVolatile → ℕ → TakeOver → CoordAct
 goes_on c v t k = maybe (chooses c k) (coord_stays (with_takeover v t k)) (λ o. coord_says (with_takeover v t (proposed k)) (to_all c (Propose t k.ballot o)))
@@ -253,8 +255,8 @@ abbrev pub nobody : Standing
 nobody = record { commits = []; aborts = [] }
 
 abbrev pub stands_for : Standing → Decision → ℕ → Standing
-stands_for standing Abort d = record { commits = standing.commits; aborts = added nat_cmp standing.aborts d }
-stands_for standing (Commit body) d = record { commits = added nat_cmp standing.commits d; aborts = standing.aborts }
+stands_for standing Abort d = record standing { aborts = added nat_cmp standing.aborts d }
+stands_for standing (Commit body) d = record standing { commits = added nat_cmp standing.commits d }
 
 abbrev pub standing_for : Standing → Decision → List ℕ
 standing_for standing Abort = standing.aborts
@@ -275,29 +277,25 @@ abbrev pub tally_of : CoordVolatile → ℕ → Table ℕ Standing
 tally_of v t = maybe (found nat_cmp v.votes t) [] (λ tally. tally)
 
 abbrev pub with_vote : CoordVolatile → ℕ → ℕ → ℕ → Decision → CoordVolatile
-with_vote v t b from o = record { gathers = v.gathers; takeovers = v.takeovers; votes = put nat_cmp v.votes t (counted (tally_of v t) b from o); places = v.places }
+with_vote v t b from o = record v { votes = put nat_cmp v.votes t (counted (tally_of v t) b from o) }
 
 abbrev pub on_voted : Layout → ℕ → CoordDurable → CoordVolatile → ℕ → ℕ → ℕ → Decision → CoordAct
 on_voted c d s v t b from o =
-    maybe (outcome_of s.outcomes t)
+    if_decided s t (λ _. coord_stays v)
     (if is_decided_by c (tally_of v t) b from o then learns c d v t o else coord_stays (with_vote v t b from o))
-    (λ _. coord_stays v)
 
 abbrev pub on_decided : Layout → ℕ → CoordDurable → CoordVolatile → ℕ → Decision → CoordAct
-on_decided c d s v t o = maybe (outcome_of s.outcomes t) (learns c d v t o) (λ _. coord_stays v)
+on_decided c d s v t o = if_decided s t (λ _. coord_stays v) (learns c d v t o)
 
 -- a client gives its transaction up: a patient take-over
 abbrev pub on_abandon : Layout → ℕ → CoordDurable → CoordVolatile → ℕ → CoordAct
-on_abandon c d s v t = maybe (outcome_of s.outcomes t) (takes_over c d s v t false) (λ outcome. coord_says v (one (client_of t) (Decided t outcome)))
+on_abandon c d s v t = if_decided s t (tells v (client_of t) t) (takes_over c d s v t false)
 
 -- the command to take a transaction over: an eager take-over
 abbrev pub do_take : Layout → ℕ → CoordDurable → CoordVolatile → ℕ → CoordAct
-do_take c d s v t = maybe (outcome_of s.outcomes t) (takes_over c d s v t true) (λ outcome. coord_says v (one (client_of t) (Decided t outcome)))
+do_take c d s v t = if_decided s t (tells v (client_of t) t) (takes_over c d s v t true)
 
 -- CATCH-UP, by pages of at most 64 entries of a list of outcomes
-abbrev pub most_entries : ℕ
-most_entries = 64
-
 abbrev pub page_from : List (ℕ × Decision) → ℕ → List (ℕ × Decision)
 page_from outcomes place = take most_entries (drop place outcomes)
 
@@ -313,7 +311,7 @@ abbrev pub is_next_page : ℕ → CoordVolatile → ℕ → ℕ → List (ℕ ×
 is_next_page d v from place page = not (from == d) && ((place == place_of v from) && nat_lt (place + length page) (2 ^ 32))
 
 abbrev pub with_place : CoordVolatile → ℕ → ℕ → CoordVolatile
-with_place v from place = record { gathers = v.gathers; takeovers = v.takeovers; votes = v.votes; places = put nat_cmp v.places from place }
+with_place v from place = record v { places = put nat_cmp v.places from place }
 
 abbrev pub undecided : List (ℕ × Decision) → List (ℕ × Decision) → List (ℕ × Decision)
 undecided outcomes page = filter (λ (e : ℕ × Decision). is_none (outcome_of outcomes e.0)) page

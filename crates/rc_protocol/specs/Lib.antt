@@ -1,19 +1,8 @@
--- What a reader has to believe: rows, worlds, runs, texts, and what is claimed of them.
+-- The step table: rows, nodes and what a party does.
 pub mod Messages
 pub mod Shard
 pub mod Coordinator
 pub mod Client
 pub mod Nodes
-pub mod Votes
-pub mod World
-pub mod Refusals
-pub mod Devices
-pub mod OneMap
-pub mod Session
-pub mod Script
-pub mod Stored
-pub mod Text
-pub mod Calm
-pub mod Outcomes
-pub mod Whole
-pub mod Quiet
+pub mod Acts
+pub mod Shown

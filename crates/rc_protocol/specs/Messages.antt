@@ -1,6 +1,7 @@
 -- Messages that a party sends, in order.
-use Rattle.std.specs.Prelude.{ℕ, zero, suc, List, [], ◌∷◌, ◌++◌}
+use Rattle.std.specs.Prelude.{ℕ, zero, suc, List, [], ◌∷◌, ◌++◌, Option, Some}
 use Rattle.rc_ids.specs.Cluster.{Layout}
+use Rattle.rc_ids.specs.Tables.{maybe}
 use Rattle.rc_ids.specs.declared.names.NodeId.TheVariants.{Coord, Shard as ShardServer}
 use Rattle.rc_ids.specs.declared.names.Party.{Party}
 use Rattle.rc_ids.specs.declared.names.Party.TheVariants.{Node, Client as ClientOf}
@@ -30,3 +31,11 @@ to_each (suc n) f = to_each n f ++ f (suc n)
 -- to the coordinators of all datacentres, in order
 abbrev pub to_all : Layout → Msg → Sends
 to_all c m = to_each c.dcs (λ d. one (coordinator d) m)
+
+-- a page of outcomes has at most so many
+abbrev pub most_entries : ℕ
+most_entries = 64
+
+-- the first, or else the second
+abbrev pub or_else : {A : Type 0} → Option A → Option A → Option A
+or_else first second = maybe first second Some

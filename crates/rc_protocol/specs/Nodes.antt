@@ -1,7 +1,14 @@
 -- Nodes: what stands in a node's log, what it makes of it, and what a stop loses.
-use Rattle.std.specs.Prelude.{ℕ, ◌+◌, ◌-◌, ◌*◌, Bool, true, false, List, [], ◌∷◌, ◌++◌, Option, Some, None}
+use Rattle.std.specs.Prelude.{ℕ, ◌+◌, ◌-◌, ◌*◌, ◌==◌, ◌&&◌, Bool, true, false, List, [], ◌∷◌, ◌++◌, Option, Some, None}
+use Rattle.std.specs.Ordering.{nat_cmp}
+use Rattle.rc_ids.specs.Tables.{added}
 use Rattle.rc_ids.specs.Cluster.{Layout}
+use Rattle.rc_ids.specs.declared.names.Outcome.{Outcome}
+use Rattle.rc_ids.specs.declared.names.Outcome.TheVariants.{Commit as Committed, Abort as Aborted}
+use Rattle.rc_body.specs.declared.decision.Decision.{Decision}
+use Rattle.rc_body.specs.declared.decision.Decision.TheVariants.{Commit, Abort}
 use Rattle.rc_record.specs.declared.record.Record.{Record}
+use Rattle.rc_record.specs.declared.record.Record.TheVariants.{Head, Prepared, Finished, Promised, Accepted, Decided}
 use Rattle.rc_record.specs.declared.shard.ShardDurable.{ShardDurable}
 use Rattle.rc_record.specs.ShardState.{shard_applied, new_durable as new_shard_durable}
 use Rattle.rc_record.specs.declared.coord.CoordDurable.{CoordDurable}
@@ -22,12 +29,12 @@ pub record ShardNode : Type 0 where
   pub durable : ShardDurable
   pub volatile : ShardVolatile
 
--- PLACES OF NODES: d1, d2 and so on; and d1.s1, d1.s2 and so on, then those of d2
-abbrev pub coord_place : ℕ → ℕ
-coord_place d = d - 1
+-- INDICES OF NODES: d1, d2 and so on; and d1.s1, d1.s2 and so on, then those of d2
+abbrev pub coord_index : ℕ → ℕ
+coord_index d = d - 1
 
-abbrev pub shard_place : Layout → ℕ → ℕ → ℕ
-shard_place c d s = (d - 1) * c.shards + (s - 1)
+abbrev pub shard_index : Layout → ℕ → ℕ → ℕ
+shard_index c d s = (d - 1) * c.shards + (s - 1)
 
 -- REPLAY: the durable state is what the records of the log make, one after another
 abbrev pub coord_replayed : CoordDurable → List Record → CoordDurable
@@ -55,10 +62,10 @@ applied apply s None = s
 applied apply s (Some r) = apply s r
 
 abbrev pub coord_after : CoordNode → CoordAct → CoordNode
-coord_after x act = record { up = x.up; log = logged x.log act.logs; durable = applied coord_applied x.durable act.logs; volatile = act.after }
+coord_after x act = record x { log = logged x.log act.logs; durable = applied coord_applied x.durable act.logs; volatile = act.after }
 
 abbrev pub shard_after : ShardNode → ShardAct → ShardNode
-shard_after x act = record { up = x.up; log = logged x.log act.logs; durable = applied shard_applied x.durable act.logs; volatile = act.after }
+shard_after x act = record x { log = logged x.log act.logs; durable = applied shard_applied x.durable act.logs; volatile = act.after }
 
 -- a node that stops keeps its log, with one more record or none
 abbrev pub coord_stopped : CoordNode → Option Record → CoordNode
@@ -66,3 +73,28 @@ coord_stopped x kept = record { up = false; log = logged x.log kept; durable = a
 
 abbrev pub shard_stopped : ShardNode → Option Record → ShardNode
 shard_stopped x kept = record { up = false; log = logged x.log kept; durable = applied shard_applied x.durable kept; volatile = new_shard_volatile }
+
+-- THE TRANSACTIONS THAT A LOG NAMES, joined to those named before
+abbrev pub with_txs : List ℕ → List (ℕ × Decision) → List ℕ
+with_txs named [] = named
+with_txs named (e ∷ es) = with_txs (added nat_cmp named e.0) es
+
+-- those of a record
+abbrev pub with_named : List ℕ → Record → List ℕ
+with_named named (Prepared t part) = added nat_cmp named t
+with_named named (Finished page) = with_txs named page
+with_named named (Promised t b) = added nat_cmp named t
+with_named named (Accepted t b o) = added nat_cmp named t
+with_named named (Decided page) = with_txs named page
+with_named named (Head h) = named
+
+abbrev pub with_log : List ℕ → List Record → List ℕ
+with_log named [] = named
+with_log named (r ∷ rs) = with_log (with_named named r) rs
+
+-- VOTES
+-- the record is a vote for the outcome of t at ballot b
+abbrev pub is_vote : Outcome → ℕ → ℕ → Record → Bool
+is_vote Committed t b (Accepted u a (Commit body)) = (u == t) && (a == b)
+is_vote Aborted t b (Accepted u a Abort) = (u == t) && (a == b)
+is_vote outcome t b _ = false

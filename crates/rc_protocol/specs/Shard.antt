@@ -19,7 +19,7 @@ use Rattle.rc_record.specs.declared.record.Record.{Record}
 use Rattle.rc_record.specs.declared.record.Record.TheVariants.{Prepared as PartPrepared, Finished}
 pub use Rattle.rc_record.specs.declared.shard.ShardDurable.{ShardDurable}
 pub use Rattle.rc_record.specs.ShardState.{new_durable, version_at, value_at, set_row, set_rows, settled, settled_new, settled_all, shard_applied}
-use Rattle.rc_protocol.specs.Messages.{Sends, coordinator, client_of, one}
+use Rattle.rc_protocol.specs.Messages.{Sends, coordinator, client_of, one, or_else, most_entries}
 
 -- a key that a transaction locked, lost or waits for
 abbrev pub Mark : Type 0
@@ -72,20 +72,17 @@ stale rows e = if nat_lt e.version (version_at rows e.key) then Some (Stale e.ke
 -- the first entry that has a reason
 abbrev pub first_reason : (Entry → Option Reason) → List Entry → Option Reason
 first_reason reason [] = None
-first_reason reason (e ∷ es) = maybe (reason e) (first_reason reason es) Some
+first_reason reason (e ∷ es) = or_else (reason e) (first_reason reason es)
 
 abbrev pub test : ShardDurable → ShardVolatile → ℕ → List Entry → Option Reason
-test s v t part =
-    maybe (first_reason (locked s.parts) part)
-    (maybe (first_reason (lost_by v.lost t) part) (first_reason (stale s.rows) part) Some)
-    Some
+test s v t part = or_else (first_reason (locked s.parts) part) (or_else (first_reason (lost_by v.lost t) part) (first_reason (stale s.rows) part))
 
 -- nothing of t among the marks
 abbrev pub cleared : List Mark → ℕ → List Mark
 cleared marks t = filter (λ (m : Mark). not (m.1 == t)) marks
 
 abbrev pub forgotten : ShardVolatile → ℕ → ShardVolatile
-forgotten v t = record { plain = cleared v.plain t; lost = cleared v.lost t; waiting = cleared v.waiting t; place = v.place }
+forgotten v t = record v { plain = cleared v.plain t; lost = cleared v.lost t; waiting = cleared v.waiting t }
 
 abbrev pub forgotten_all : ShardVolatile → List (ℕ × Decision) → ShardVolatile
 forgotten_all v [] = v
@@ -104,11 +101,9 @@ added_all marks (m ∷ ms) = added_all (added mark_cmp marks m) ms
 
 -- each waiting read whose key nobody holds exclusively gets a plain lock, in order
 abbrev pub granted : ShardDurable → ShardVolatile → ShardVolatile
-granted s v = record {
+granted s v = record v {
   plain = added_all v.plain (filter (is_free s.parts) v.waiting);
-  lost = v.lost;
   waiting = filter (λ (m : Mark). not (is_free s.parts m)) v.waiting;
-  place = v.place;
 }
 
 abbrev pub grants : ℕ → ShardDurable → ShardVolatile → Sends
@@ -122,10 +117,10 @@ abbrev pub shard_says : ShardVolatile → Sends → ShardAct
 shard_says v ms = record { logs = None; after = v; sends = ms }
 
 abbrev pub waits : ShardVolatile → Mark → ShardVolatile
-waits v m = record { plain = v.plain; lost = v.lost; waiting = if member mark_cmp v.waiting m then v.waiting else v.waiting ++ m ∷ []; place = v.place }
+waits v m = record v { waiting = if member mark_cmp v.waiting m then v.waiting else v.waiting ++ m ∷ [] }
 
 abbrev pub locks_plain : ShardVolatile → Mark → ShardVolatile
-locks_plain v m = record { plain = added mark_cmp v.plain m; lost = v.lost; waiting = v.waiting; place = v.place }
+locks_plain v m = record v { plain = added mark_cmp v.plain m }
 
 -- t is finished or prepared here, or lost the key
 abbrev pub ignores_ask : ShardDurable → ShardVolatile → ℕ → List ℕ → Bool
@@ -140,18 +135,17 @@ abbrev pub is_other : Mark → Mark → Bool
 is_other m n = not (is_eq (mark_cmp m n))
 
 abbrev pub on_read_cancel : ShardVolatile → ℕ → List ℕ → ShardAct
-on_read_cancel v t k = shard_stays (record { plain = filter (is_other (k, t)) v.plain; lost = v.lost; waiting = filter (is_other (k, t)) v.waiting; place = v.place })
+on_read_cancel v t k = shard_stays (record v { plain = filter (is_other (k, t)) v.plain; waiting = filter (is_other (k, t)) v.waiting })
 
 -- the prepare of t takes this plain lock away
 abbrev pub is_taken : ℕ → List Entry → Mark → Bool
 is_taken t part m = not (m.1 == t) && writes m.0 part
 
 abbrev pub preempted : ShardVolatile → ℕ → List Entry → ShardVolatile
-preempted v t part = record {
+preempted v t part = record v {
   plain = cleared (filter (λ (m : Mark). not (is_taken t part m)) v.plain) t;
   lost = added_all v.lost (filter (is_taken t part) v.plain);
   waiting = cleared v.waiting t;
-  place = v.place;
 }
 
 abbrev pub answers : ℕ → ℕ → ℕ → Option Reason → Sends
@@ -195,14 +189,14 @@ abbrev pub is_next_page : ShardVolatile → ℕ → List (ℕ × Decision) → B
 is_next_page v place page = (place == v.place) && nat_lt (place + length page) (2 ^ 32)
 
 abbrev pub with_place : ShardVolatile → ℕ → ShardVolatile
-with_place v place = record { plain = v.plain; lost = v.lost; waiting = v.waiting; place = place }
+with_place v place = record v { place = place }
 
 -- after a full page the next one is asked for
 abbrev pub asks_next : ℕ → ℕ → List (ℕ × Decision) → Sends
-asks_next d place page = if length page == 64 then one (coordinator d) (CatchAsk (place + length page)) else []
+asks_next d place page = if length page == most_entries then one (coordinator d) (CatchAsk (place + length page)) else []
 
 abbrev pub then_says : ShardAct → Sends → ShardAct
-then_says act more = record { logs = act.logs; after = act.after; sends = act.sends ++ more }
+then_says act more = record act { sends = act.sends ++ more }
 
 abbrev pub takes_page : ℕ → ShardDurable → ShardVolatile → List (ℕ × Decision) → ShardAct
 takes_page d s v [] = shard_stays v

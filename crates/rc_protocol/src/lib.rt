@@ -1,9 +1,3 @@
-//! The protocol, as definitions: the rows of clients, shard servers and coordinators, the network, events and runs, the
-//! order of the committed transactions, and the text that a script gives. They stand in `specs/`; the code of the crates
-//! above cites them, and so do the laws.
+//! The step table, as definitions: the rows of clients, shard servers and coordinators, what a node's log gives back, and what a party
+//! does. They stand in `specs/`; the tables, nodes and clients of the crates above cite them, and so do runs and laws.
 #![tactic(auto)]
-
-mod event;
-
-pub use event::Event;
-pub use rc_report::{Which, Wrong};

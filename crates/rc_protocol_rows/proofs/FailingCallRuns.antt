@@ -5,8 +5,8 @@ use Rattle.rc_ids.specs.declared.names.NodeId.TheVariants.{Coord, Shard}
 use Rattle.std.specs.Fmt.{digits}
 use Rattle.rc_script.specs.Reading.{script_of, read_lines, line_of}
 use Rattle.rc_script.specs.Commands.{command_of}
-use Rattle.rc_protocol.specs.Text.{plays, plays_script}
-use Rattle.rc_protocol.specs.Script.{steps, settles}
+use Rattle.rc_runs.specs.Text.{plays, plays_script}
+use Rattle.rc_runs.specs.Script.{steps, settles}
 use Rattle.rc_protocol_rows.specs.FailingCalls.{failing_at, CreationGives, AppendGives, shard_stops, coord_stops_voting, coord_stops_learning, coord_stops_learned, not_opened}
 use Rattle.rc_protocol_rows.specs.Cases.{RunGivesAt}
 

@@ -3,8 +3,8 @@ use Rattle.std.proofs.Common.{refl, take, drop}
 use Rattle.std.specs.Fmt.{digits}
 use Rattle.rc_script.specs.Reading.{script_of, read_lines, line_of}
 use Rattle.rc_script.specs.Commands.{command_of}
-use Rattle.rc_protocol.specs.Text.{plays, plays_script}
-use Rattle.rc_protocol.specs.Script.{steps, settles}
+use Rattle.rc_runs.specs.Text.{plays, plays_script}
+use Rattle.rc_runs.specs.Script.{steps, settles}
 use Rattle.rc_protocol_rows.specs.Cases.{RunGives}
 use Rattle.rc_protocol_rows.specs.Long.{caught_up, outcomes, PagesGo}
 

@@ -3,7 +3,7 @@ use Rattle.std.proofs.Common.{refl}
 use Rattle.std.specs.Fmt.{digits}
 use Rattle.rc_script.specs.Reading.{script_of, read_lines, line_of}
 use Rattle.rc_script.specs.Commands.{command_of}
-use Rattle.rc_protocol.specs.Calm.{calm_from, is_calm_from}
+use Rattle.rc_claims.specs.Calm.{calm_from, is_calm_from}
 use Rattle.rc_protocol_rows.specs.Cases.{OneMapGives, three_dcs}
 use Rattle.rc_protocol_rows.specs.Calm.{write_then_read, no_key, own_write}
 

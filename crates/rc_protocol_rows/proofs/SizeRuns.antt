@@ -3,8 +3,8 @@ use Rattle.std.proofs.Common.{refl}
 use Rattle.std.specs.Fmt.{digits}
 use Rattle.rc_script.specs.Reading.{script_of, read_lines, line_of}
 use Rattle.rc_script.specs.Commands.{command_of}
-use Rattle.rc_protocol.specs.Text.{plays, plays_script}
-use Rattle.rc_protocol.specs.Script.{steps, settles}
+use Rattle.rc_runs.specs.Text.{plays, plays_script}
+use Rattle.rc_runs.specs.Script.{steps, settles}
 use Rattle.rc_protocol_rows.specs.Cases.{RunGives}
 use Rattle.rc_protocol_rows.specs.Sizes.{longest_key, longer_key, longest_value, longer_value, keys_in_excess, BeginsEnd}
 

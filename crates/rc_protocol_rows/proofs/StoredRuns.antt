@@ -7,8 +7,8 @@ use Rattle.rc_fields.specs.Formats.{nothing_at, both_at, mapped_at, tested_at, t
 use Rattle.rc_fields.specs.Names.{byte_at, place_at, long_at, tx_at, ballot_at, version_at, dc_at, shard_at, short_at, text_at, key_at, value_at, node_at}
 use Rattle.rc_body.specs.Reading.{held_at, entry_at, body_at, decision_at, page_at}
 use Rattle.rc_record.specs.Reading.{then_at, front_at, lists_at, head_at, prepared_at, full_page_at, promised_at, accepted_at, head_record_at, finished_at, decided_at, record_at, decoded}
-use Rattle.rc_protocol.specs.Text.{plays, plays_script}
-use Rattle.rc_protocol.specs.Script.{steps, settles}
+use Rattle.rc_runs.specs.Text.{plays, plays_script}
+use Rattle.rc_runs.specs.Script.{steps, settles}
 use Rattle.rc_protocol_rows.specs.Cases.{RunGivesAt}
 use Rattle.rc_protocol_rows.specs.Stored.{runs_on, after_commit, after_votes, second_run, chosen_before, begun_before, vanished_before, other_shards, other_weights, bad_log, cut_log, refused_record, last_ballot, no_ballot, gone_in_first_format}
 

@@ -1,6 +1,6 @@
 -- Transactions one after another.
 use Rattle.std.specs.Prelude.{[], ◌∷◌, codes}
-use Rattle.rc_protocol.specs.Text.{Done}
+use Rattle.rc_runs.specs.Text.{Done}
 use Rattle.rc_protocol_rows.specs.Cases.{Case, ended}
 
 -- a script without lines

@@ -6,9 +6,9 @@ use Rattle.rc_report.specs.Lines.{line_text}
 use Rattle.rc_script.specs.Reading.{script_of}
 use Rattle.rc_script.specs.declared.script.NumberedCommand.{NumberedCommand}
 use Rattle.rc_script.specs.declared.fault.ScriptFault.{ScriptFault}
-use Rattle.rc_protocol.specs.Text.{Ending, Played, played}
-use Rattle.rc_protocol.specs.Stored.{Place, in_memory}
-use Rattle.rc_protocol.specs.Calm.{calm_lines, is_calm}
+use Rattle.rc_runs.specs.Text.{Ending, Played, played}
+use Rattle.rc_runs.specs.Stored.{Place, in_memory}
+use Rattle.rc_claims.specs.Calm.{calm_lines, is_calm}
 
 pub record Case : Type 0 where
   pub script : List ℕ

@@ -1,6 +1,6 @@
 -- Transactions that meet at a key.
 use Rattle.std.specs.Prelude.{[], ◌∷◌, codes}
-use Rattle.rc_protocol.specs.Text.{Done}
+use Rattle.rc_runs.specs.Text.{Done}
 use Rattle.rc_protocol_rows.specs.Cases.{Case, ended}
 
 -- both write what both read: one commits, and a take-over aborts the other

@@ -1,7 +1,7 @@
 -- A shard server whose power is cut at each device call of its append, with each pick of what that leaves.
 use Rattle.std.specs.Prelude.{ℕ, List, [], ◌∷◌, ◌++◌, codes, Bool, ◌&&◌, ◌||◌, nat_le, ◌==◌, if◌then◌else◌}
 use Rattle.std.specs.Fmt.{decimal}
-use Rattle.rc_protocol.specs.Text.{Done}
+use Rattle.rc_runs.specs.Text.{Done}
 use Rattle.rc_protocol_rows.specs.Cases.{Case, RunGives, ended}
 
 -- the record of the append is kept

@@ -3,8 +3,8 @@ use Rattle.std.specs.Prelude.{ℕ, List, [], ◌∷◌, ◌++◌, map, codes, if
 use Rattle.rc_ids.specs.declared.names.NodeId.{NodeId}
 use Rattle.rc_disk.specs.declared.power.Cause.TheVariants.{ByList}
 use Rattle.rc_record.specs.Heads.{same_node}
-use Rattle.rc_protocol.specs.Stored.{Place, in_memory}
-use Rattle.rc_protocol.specs.Text.{Done, FarmFault}
+use Rattle.rc_runs.specs.Stored.{Place, in_memory}
+use Rattle.rc_runs.specs.Text.{Done, FarmFault}
 use Rattle.rc_protocol_rows.specs.Cases.{Case, RunGivesAt, ended}
 
 -- these calls of this node's disk fail

@@ -9,7 +9,7 @@ use Rattle.rc_msg.specs.declared.msg.Msg.TheVariants.{CatchAsk, CatchPage, Finis
 use Rattle.rc_record.specs.declared.coord.CoordDurable.{CoordDurable}
 use Rattle.rc_protocol.specs.Messages.{Sends, coordinator, shard_server, one}
 use Rattle.rc_protocol.specs.Coordinator.{CoordAct, coord_row, new_volatile, place_of, with_place}
-use Rattle.rc_protocol.specs.Text.{Done}
+use Rattle.rc_runs.specs.Text.{Done}
 use Rattle.rc_protocol_rows.specs.Cases.{Case, ended, three_dcs}
 
 -- one transaction that writes a key

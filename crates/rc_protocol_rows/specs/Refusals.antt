@@ -1,6 +1,6 @@
 -- Scripts that end early.
 use Rattle.std.specs.Prelude.{[], ◌∷◌, ◌++◌, codes}
-use Rattle.rc_protocol.specs.Text.{BadScript}
+use Rattle.rc_runs.specs.Text.{BadScript}
 use Rattle.rc_protocol_rows.specs.Cases.{Case, ended}
 
 -- no message has the number

@@ -3,11 +3,11 @@ use Rattle.std.specs.Prelude.{◌≡◌, ℕ, List, [], ◌∷◌, ◌++◌, map
 use Rattle.std.specs.Fmt.{decimal}
 use Rattle.rc_ids.specs.Tables.{up_to}
 use Rattle.rc_report.specs.declared.fault.Which.TheVariants.{Transactions}
-use Rattle.rc_protocol.specs.declared.event.Event.TheVariants.{Begin}
+use Rattle.rc_runs.specs.declared.event.Event.TheVariants.{Begin}
 use Rattle.rc_protocol.specs.Client.{new_client}
-use Rattle.rc_protocol.specs.World.{World, Goes, new_start}
-use Rattle.rc_protocol.specs.Refusals.{limit}
-use Rattle.rc_protocol.specs.Text.{Ending, Done, BadScript}
+use Rattle.rc_runs.specs.World.{World, Goes, new_start}
+use Rattle.rc_runs.specs.Refusals.{limit}
+use Rattle.rc_runs.specs.Text.{Ending, Done, BadScript}
 use Rattle.rc_protocol_rows.specs.Cases.{Case, ended, three_dcs}
 
 abbrev pub with_line : List ℕ → List ℕ → Ending → Case

@@ -1,6 +1,6 @@
 -- Nodes that stop and start again.
 use Rattle.std.specs.Prelude.{[], ◌∷◌, codes}
-use Rattle.rc_protocol.specs.Text.{Done, BadScript}
+use Rattle.rc_runs.specs.Text.{Done, BadScript}
 use Rattle.rc_protocol_rows.specs.Cases.{Case, ended}
 
 -- every node stops, and what was voted is committed by a take-over

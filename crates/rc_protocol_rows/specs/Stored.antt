@@ -10,11 +10,11 @@ use Rattle.rc_record.specs.Spelling.{record_bytes}
 use Rattle.rc_script.specs.Reading.{script_of}
 use Rattle.rc_script.specs.declared.script.NumberedCommand.{NumberedCommand}
 use Rattle.rc_script.specs.declared.fault.ScriptFault.{ScriptFault}
-use Rattle.rc_protocol.specs.World.{World, coord_at, shard_at}
-use Rattle.rc_protocol.specs.Session.{Session, Halt, device_of}
-use Rattle.rc_protocol.specs.Script.{performs}
-use Rattle.rc_protocol.specs.Stored.{Place, Stored, Empty, Damaged, Kept, in_memory, new_session}
-use Rattle.rc_protocol.specs.Text.{Done, BadScript, LimitMet, BadLog}
+use Rattle.rc_runs.specs.World.{World, coord_at, shard_at}
+use Rattle.rc_runs.specs.Session.{Session, Halt, device_of}
+use Rattle.rc_runs.specs.Script.{performs}
+use Rattle.rc_runs.specs.Stored.{Place, Stored, Empty, Damaged, Kept, in_memory, new_session}
+use Rattle.rc_runs.specs.Text.{Done, BadScript, LimitMet, BadLog}
 use Rattle.rc_protocol_rows.specs.Cases.{Case, RunGivesAt, ended, three_dcs}
 
 -- THE LOGS that a script left

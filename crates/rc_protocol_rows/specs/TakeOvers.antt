@@ -1,6 +1,6 @@
 -- Transactions that another datacentre takes over.
 use Rattle.std.specs.Prelude.{[], ◌∷◌, codes}
-use Rattle.rc_protocol.specs.Text.{Done}
+use Rattle.rc_runs.specs.Text.{Done}
 use Rattle.rc_protocol_rows.specs.Cases.{Case, ended}
 
 -- the client is gone before it learns its outcome

@@ -7,7 +7,7 @@ use Rattle.rc_report.specs.Names.{tx_text, node_text}
 use Rattle.rc_report.specs.declared.fault.Wrong.{Wrong}
 use Rattle.rc_report.specs.declared.fault.Wrong.TheVariants.{NotBegun, BegunTwice, Vanished, NotOpen, TooManyKeys, Down, Up, NotSent, NotPending}
 use Rattle.rc_report.specs.declared.fault.Which.{Which}
-use Rattle.rc_report.specs.declared.fault.Which.TheVariants.{Transactions, Events, Messages, MessageBytes, TextBytes, Version, Ballots}
+use Rattle.rc_report.specs.declared.fault.Which.TheVariants.{Transactions, Events, Messages, MessageBytes, TextBytes, Version, Ballots, Log}
 use Rattle.rc_report.specs.declared.fault.LogFault.{LogFault}
 use Rattle.rc_report.specs.declared.fault.LogFault.TheVariants.{Damaged, BadRecord, OtherWorld}
 
@@ -28,17 +28,20 @@ wrong_text (NotSent n) = concat (codes "message " ∷ decimal n ∷ codes " was 
 wrong_text (NotPending n) = concat (codes "message " ∷ decimal n ∷ codes " is not pending" ∷ [])
 
 -- the quantity that would pass its limit
-abbrev pub which_text : Which → List ℕ
-which_text Transactions = codes "transactions"
-which_text Events = codes "events"
-which_text Messages = codes "messages"
-which_text MessageBytes = codes "message bytes"
-which_text TextBytes = codes "text bytes"
-which_text Version = codes "version"
-which_text Ballots = codes "ballots"
-
 abbrev pub limit_text : Which → List ℕ
-limit_text which = concat (codes "limit of " ∷ which_text which ∷ [])
+limit_text Transactions = codes "limit of transactions"
+limit_text Events = codes "limit of events"
+limit_text Messages = codes "limit of messages"
+limit_text MessageBytes = codes "limit of message bytes"
+limit_text TextBytes = codes "limit of text bytes"
+limit_text Version = codes "limit of version"
+limit_text Ballots = codes "limit of ballots"
+limit_text (Log node) = concat (node_text node ∷ codes ": limit of log" ∷ [])
+
+-- in a line of the script; a log is named by its node
+abbrev pub limit_at : ℕ → Which → List ℕ
+limit_at n (Log node) = limit_text (Log node)
+limit_at n which = concat (at_line n ∷ limit_text which ∷ [])
 
 -- what is wrong with a node's log
 abbrev pub log_fault_text : NodeId → LogFault → List ℕ

@@ -6,7 +6,7 @@ use Rattle.rc_ids.specs.declared.names.NodeId.{NodeId}
 use Rattle.rc_report.specs.Names.{space, tx_text, dc_text, node_text, ended_text, is_gone}
 use Rattle.rc_report.specs.Reasons.{reason_text}
 use Rattle.rc_report.specs.Messages.{pending_text}
-use Rattle.rc_report.specs.Faults.{at_line, wrong_text, limit_text, log_fault_text}
+use Rattle.rc_report.specs.Faults.{at_line, wrong_text, limit_text, limit_at, log_fault_text}
 use Rattle.rc_report.specs.declared.line.Hold.{Hold}
 use Rattle.rc_report.specs.declared.line.Hold.TheVariants.{Free, Held}
 use Rattle.rc_report.specs.declared.line.Rest.{Rest}
@@ -14,7 +14,7 @@ use Rattle.rc_report.specs.declared.line.Rest.TheVariants.{Gone, Unknown, Open}
 use Rattle.rc_report.specs.declared.line.Count.{Count}
 use Rattle.rc_report.specs.declared.line.Count.TheVariants.{Transactions, Committed, Aborted, Deliveries}
 use Rattle.rc_report.specs.declared.line.Line.{Line}
-use Rattle.rc_report.specs.declared.line.Line.TheVariants.{Read, Own, Refused, Learned, Settled, Order, Stopped, Up, Pending, Row, Down, Outside, Named, Limit, ScriptBytes, ScriptLines, Full, Log, LogLimit, Workload, Left, Counted}
+use Rattle.rc_report.specs.declared.line.Line.TheVariants.{Read, Own, Refused, Learned, Settled, Order, Stopped, Up, Pending, Row, Down, Outside, Named, Limit, ScriptBytes, ScriptLines, Full, Log, Workload, Left, Counted}
 
 abbrev pub line_end : List ℕ
 line_end = 10 ∷ []
@@ -76,12 +76,11 @@ body_text (Row node k v hold value) = row_text node k v hold value
 body_text (Down node) = concat (node_text node ∷ codes " down" ∷ [])
 body_text (Outside n) = concat (at_line n ∷ codes "outside the grammar" ∷ [])
 body_text (Named n wrong) = concat (at_line n ∷ wrong_text wrong ∷ [])
-body_text (Limit n which) = concat (at_line n ∷ limit_text which ∷ [])
+body_text (Limit n which) = limit_at n which
 body_text ScriptBytes = codes "limit of script bytes"
 body_text ScriptLines = codes "limit of lines"
 body_text (Full which) = limit_text which
 body_text (Log node fault) = log_fault_text node fault
-body_text (LogLimit node) = concat (node_text node ∷ codes ": limit of log" ∷ [])
 body_text Workload = codes "workload refused"
 body_text (Left t rest) = concat (tx_text t ∷ space ∷ rest_text rest ∷ [])
 body_text (Counted count n) = concat (count_text count ∷ space ∷ decimal n ∷ [])

@@ -41,6 +41,8 @@ pub enum Which {
     Version,
     /// Ballots are at most 2^31.
     Ballots,
+    /// 2^28 bytes in the log of the node, where a head is owed at its opening.
+    Log(NodeId),
 }
 
 /// What is wrong with a node's log.

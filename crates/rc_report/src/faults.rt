@@ -1,6 +1,6 @@
 // Faults as text.
 ghost use Rattle.std.specs.Prelude.{◌≡◌, ◌++◌, OnOk, codes};
-ghost use Rattle.rc_report.specs.Faults.{at_line, wrong_text, which_text, limit_text, log_fault_text};
+ghost use Rattle.rc_report.specs.Faults.{at_line, wrong_text, limit_text, limit_at, log_fault_text};
 
 use crate::piece::{Piece, put};
 use crate::{LogFault, Which, Wrong};
@@ -51,28 +51,33 @@ pub fn put_wrong(out: &mut Text, wrong: Wrong) -> Result<(), NoMemory>
     }
 }
 
-fn which_word(which: Which) -> &'static [u8]
-    ensures { result.now ≡ which_text which }
-{
-    match which {
-        Which::Transactions => b"transactions",
-        Which::Events => b"events",
-        Which::Messages => b"messages",
-        Which::MessageBytes => b"message bytes",
-        Which::TextBytes => b"text bytes",
-        Which::Version => b"version",
-        Which::Ballots => b"ballots",
-    }
-}
-
 /// Adds that a quantity would pass its limit.
 pub fn put_limit(out: &mut Text, which: Which) -> Result<(), NoMemory>
     ensures { OnOk result (out.new ≡ out.old ++ limit_text which) }
 {
-    put(
-        out,
-        &[Piece::Word(b"limit of "), Piece::Word(which_word(which))],
-    )
+    match which {
+        Which::Transactions => put(out, &[Piece::Word(b"limit of transactions")]),
+        Which::Events => put(out, &[Piece::Word(b"limit of events")]),
+        Which::Messages => put(out, &[Piece::Word(b"limit of messages")]),
+        Which::MessageBytes => put(out, &[Piece::Word(b"limit of message bytes")]),
+        Which::TextBytes => put(out, &[Piece::Word(b"limit of text bytes")]),
+        Which::Version => put(out, &[Piece::Word(b"limit of version")]),
+        Which::Ballots => put(out, &[Piece::Word(b"limit of ballots")]),
+        Which::Log(node) => put(out, &[Piece::Node(node), Piece::Word(b": limit of log")]),
+    }
+}
+
+/// Adds the same in a line of the script; a log is named by its node alone.
+pub fn put_limit_at(out: &mut Text, number: u32, which: Which) -> Result<(), NoMemory>
+    ensures { OnOk result (out.new ≡ out.old ++ limit_at number which) }
+{
+    match which {
+        Which::Log(node) => put_limit(out, Which::Log(node)),
+        _ => {
+            put_line(out, number)?;
+            put_limit(out, which)
+        }
+    }
 }
 
 /// Adds what is wrong with a node's log.

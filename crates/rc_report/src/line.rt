@@ -93,7 +93,7 @@ pub enum Line {
     Outside(u32),
     /// This line names something wrongly.
     Named(u32, Wrong),
-    /// In this line a quantity would pass its limit.
+    /// In this line a quantity would pass its limit; of a node's log the node is named in place of the line.
     Limit(u32, Which),
     /// The script has too many bytes.
     ScriptBytes,
@@ -103,8 +103,6 @@ pub enum Line {
     Full(Which),
     /// A node's log is refused.
     Log(NodeId, LogFault),
-    /// A node's log has no room for a record that is owed at its opening.
-    LogLimit(NodeId),
     /// The workload is refused.
     Workload,
     /// A transaction has no outcome.

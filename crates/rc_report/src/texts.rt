@@ -4,7 +4,7 @@ ghost use Rattle.std.specs.List.{flat_map};
 ghost use Rattle.rc_report.specs.Names.{space, tx_text, ended_text, is_gone as is_gone_lem};
 ghost use Rattle.rc_report.specs.Lines.{read_text, own_text, order_text, hold_text, row_text, rest_text, count_text, body_text, line_text};
 
-use crate::faults::{put_limit, put_line, put_log_fault, put_wrong};
+use crate::faults::{put_limit, put_limit_at, put_line, put_log_fault, put_wrong};
 use crate::messages::put_pending;
 use crate::piece::{Piece, put};
 use crate::reasons::put_reason;
@@ -213,15 +213,11 @@ fn put_body(out: &mut Text, line: &Line) -> Result<(), NoMemory>
             put_line(out, *number)?;
             put_wrong(out, *wrong)
         }
-        Line::Limit(number, which) => {
-            put_line(out, *number)?;
-            put_limit(out, *which)
-        }
+        Line::Limit(number, which) => put_limit_at(out, *number, *which),
         Line::ScriptBytes => put(out, &[Piece::Word(b"limit of script bytes")]),
         Line::ScriptLines => put(out, &[Piece::Word(b"limit of lines")]),
         Line::Full(which) => put_limit(out, *which),
         Line::Log(node, fault) => put_log_fault(out, *node, *fault),
-        Line::LogLimit(node) => put(out, &[Piece::Node(*node), Piece::Word(b": limit of log")]),
         Line::Workload => put(out, &[Piece::Word(b"workload refused")]),
         Line::Left(tx, rest) => put(
             out,

@@ -3,7 +3,7 @@ use Rattle.std.proofs.Common.{◌≡◌, ◌==◌, ◌↔◌, ℕ, suc, Bool, tr
 use Rattle.rc_ids.specs.Tables.{In, maybe}
 use Rattle.rc_body.specs.declared.entry.Entry.{Entry}
 use Rattle.rc_protocol.specs.Shard.{version_at}
-use Rattle.rc_protocol.specs.OneMap.{Map, FirstWrong, Explains, body_applied, wrong_entry, first_wrong}
+use Rattle.rc_serial.specs.OneMap.{Map, FirstWrong, Explains, body_applied, wrong_entry, first_wrong}
 use Rattle.rc_serial.specs.Orders.{NoneServed}
 
 abbrev AllGive : Map → List Entry → Type 0

@@ -4,7 +4,7 @@ use Rattle.rc_ids.specs.Tables.{Table, put, maybe}
 use Rattle.rc_ids.specs.Texts.{key_cmp}
 use Rattle.rc_body.specs.Rows.{Row}
 use Rattle.rc_body.specs.declared.entry.Entry.{Entry}
-use Rattle.rc_protocol.specs.OneMap.{Map, FirstWrong, body_applied, wrong_entry, first_wrong}
+use Rattle.rc_serial.specs.OneMap.{Map, FirstWrong, body_applied, wrong_entry, first_wrong}
 use Rattle.rc_serial.specs.Orders.{with_rows}
 use Rattle.rc_serial.specs.Versions.{versions_of, version_in, body_raised}
 use Rattle.rc_serial.proofs.Rest.{rest_at}

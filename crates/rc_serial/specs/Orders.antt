@@ -4,7 +4,7 @@ use Rattle.rc_ids.specs.Tables.{put}
 use Rattle.rc_ids.specs.Texts.{key_cmp}
 use Rattle.rc_body.specs.Rows.{Row}
 use Rattle.rc_body.specs.declared.entry.Entry.{Entry}
-use Rattle.rc_protocol.specs.OneMap.{Map, FirstWrong}
+use Rattle.rc_serial.specs.OneMap.{Map, FirstWrong}
 use Rattle.rc_serial.specs.declared.committed.Committed.{Committed}
 use Rattle.rc_serial.specs.declared.committed.FirstWrong.{FirstWrong as Wrong}
 

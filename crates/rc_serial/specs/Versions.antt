@@ -3,7 +3,7 @@ use Rattle.std.specs.Prelude.{◌≡◌, ℕ, ◌+◌, List, [], ◌∷◌, map}
 use Rattle.rc_ids.specs.Tables.{Table, found, put, maybe}
 use Rattle.rc_ids.specs.Texts.{key_cmp}
 use Rattle.rc_body.specs.declared.entry.Entry.{Entry}
-use Rattle.rc_protocol.specs.OneMap.{Map}
+use Rattle.rc_serial.specs.OneMap.{Map}
 
 -- the map without its values
 abbrev pub versions_of : Map → Table (List ℕ) ℕ

@@ -1,7 +1,7 @@
 // The first read that one map does not explain.
 ghost use Rattle.std.specs.Prelude.{◌≡◌, ◌<◌, ◌^◌, length, IfOk, IsNone, ◌↔◌};
 ghost use Rattle.std.specs.Option.{option_map};
-ghost use Rattle.rc_protocol.specs.OneMap.{Explains, first_wrong};
+ghost use Rattle.rc_serial.specs.OneMap.{Explains, first_wrong};
 ghost use Rattle.rc_serial.specs.Orders.{NoneServed, map_of, order_of, wrong_of};
 
 use crate::versions::Versions;

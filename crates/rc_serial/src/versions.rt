@@ -3,7 +3,7 @@ ghost use Rattle.std.specs.Prelude.{◌≡◌, [], ◌+◌, ◌-◌, ◌^◌, �
 ghost use Rattle.std.specs.Option.{option_map};
 ghost use Rattle.rc_ids.specs.Tables.{put};
 ghost use Rattle.rc_ids.specs.Texts.{key_cmp};
-ghost use Rattle.rc_protocol.specs.OneMap.{Map, wrong_entry};
+ghost use Rattle.rc_serial.specs.OneMap.{Map, wrong_entry};
 ghost use Rattle.rc_serial.specs.Orders.{map_of, wrong_of};
 ghost use Rattle.rc_serial.specs.Versions.{version_in, versions_of, body_raised, Agree};
 

@@ -7,7 +7,7 @@ use Rattle.rc_report.specs.declared.line.Hold.TheVariants.{Free, Held}
 use Rattle.rc_report.specs.declared.line.Line.{Line}
 use Rattle.rc_report.specs.declared.line.Line.TheVariants.{Row}
 use Rattle.rc_protocol.specs.Shard.{holder}
-use Rattle.rc_protocol.specs.Script.{with_held}
+use Rattle.rc_protocol.specs.Shown.{with_held}
 
 -- the keys that were written or are held exclusively, in key order
 abbrev pub keys_shown : ShardDurable → List (List ℕ)

@@ -5,7 +5,7 @@ ghost use Rattle.rc_record.specs.ShardState.{new_durable};
 ghost use Rattle.rc_record.specs.declared.record.Record.{Record as RecordState};
 ghost use Rattle.rc_protocol.specs.Shard.{do_catch, shard_row, ignores_ask, on_read_ask, on_read_cancel, on_prepare, on_finish, on_catch_page, is_next_page, unfinished as unfinished_lem, test, takes_page, finishes, answers, asks_next};
 ghost use Rattle.rc_protocol.specs.Nodes.{ShardNode, shard_replayed, shard_started, shard_stopped, shard_after};
-ghost use Rattle.rc_protocol.specs.Script.{row_lines};
+ghost use Rattle.rc_protocol.specs.Shown.{row_lines};
 ghost use Rattle.rc_ids.specs.Cluster.{is_dc as is_dc_lem};
 ghost use Rattle.std.specs.Ordering.{nat_cmp};
 ghost use Rattle.rc_ids.specs.Tables.{found};

@@ -15,12 +15,12 @@ use Rattle.rc_report.specs.declared.line.Line.{Line}
 use Rattle.rc_protocol.specs.Messages.{Sends}
 use Rattle.rc_protocol.specs.Client.{Client}
 use Rattle.rc_protocol.specs.Coordinator.{CoordAct, CoordVolatile}
-use Rattle.rc_protocol.specs.Nodes.{CoordNode, coord_place, logged}
-use Rattle.rc_protocol.specs.Votes.{ordered}
-use Rattle.rc_protocol.specs.World.{Parties, Deed, Idle, ByCoord, Course, Goes, Stops, along, moved, sends_of, lines_of, with_coord, coord_does}
-use Rattle.rc_protocol.specs.Refusals.{worn_out}
-use Rattle.rc_protocol.specs.Devices.{Device, record_length, appended}
-use Rattle.rc_protocol.specs.Session.{DiskWork, no_work, no_device, append_work}
+use Rattle.rc_protocol.specs.Nodes.{CoordNode, coord_index, logged}
+use Rattle.rc_runs.specs.Votes.{ordered}
+use Rattle.rc_runs.specs.World.{Parties, Deed, Idle, ByCoord, Course, Goes, Stops, along, moved, sends_of, lines_of, with_coord, coord_does}
+use Rattle.rc_runs.specs.Refusals.{worn_out}
+use Rattle.rc_runs.specs.Devices.{Device, record_length, appended}
+use Rattle.rc_runs.specs.Session.{DiskWork, no_work, no_device, append_work}
 use Rattle.rc_world.specs.Hosts.{CoordSite, ShardSite, coord_nodes, coord_devices, coord_left, course_for, device_for, record_left, sends_left, lines_left}
 use Rattle.rc_world.specs.Acted.{Housed, housed, disk_at, with_disk, deed_work, disks_after, Acted, Refuses, CoordDone, CoordDid, CoordIdle, Lacking}
 use Rattle.rc_world.specs.declared.fault.ActFault.{ActFault}
@@ -96,17 +96,17 @@ abbrev with_coords : Parties → List CoordNode → List (ℕ × List Entry) →
 with_coords p coords committed = record { layout = p.layout; start = p.start; coords = coords; shards = p.shards; clients = p.clients; committed = committed }
 
 coord_disk : (c : Layout) (cs : List CoordSite) (ss : List ShardSite) (clients : Table ℕ Client) (committed : List (ℕ × List Entry)) (d : ℕ) (h : CoordSite)
-    → slice_get cs (coord_place d) ≡ Some h → disk_at (housed c cs ss clients committed) (Coord d) ≡ h.device
+    → slice_get cs (coord_index d) ≡ Some h → disk_at (housed c cs ss clients committed) (Coord d) ≡ h.device
 coord_disk c cs ss clients committed d h at =
-    ap (λ (o : Option Device). maybe o no_device (λ x. x)) (slice_get-map (λ (s : CoordSite). s.device) cs (coord_place d) ∙ ap (option_map (λ (s : CoordSite). s.device)) at)
+    ap (λ (o : Option Device). maybe o no_device (λ x. x)) (slice_get-map (λ (s : CoordSite). s.device) cs (coord_index d) ∙ ap (option_map (λ (s : CoordSite). s.device)) at)
 
 coord_same_disk : (c : Layout) (cs : List CoordSite) (ss : List ShardSite) (clients : Table ℕ Client) (committed : List (ℕ × List Entry)) (d : ℕ) (h : CoordSite)
-    → slice_get cs (coord_place d) ≡ Some h → slice_set (coord_devices cs) (coord_place d) h.device ≡ coord_devices cs
+    → slice_get cs (coord_index d) ≡ Some h → slice_set (coord_devices cs) (coord_index d) h.device ≡ coord_devices cs
 coord_same_disk c cs ss clients committed d h at =
-    set_same (coord_devices cs) (coord_place d) h.device (slice_get-map (λ (s : CoordSite). s.device) cs (coord_place d) ∙ ap (option_map (λ (s : CoordSite). s.device)) at)
+    set_same (coord_devices cs) (coord_index d) h.device (slice_get-map (λ (s : CoordSite). s.device) cs (coord_index d) ∙ ap (option_map (λ (s : CoordSite). s.device)) at)
 
 pub coord_did : (c : Layout) (cs cs' : List CoordSite) (ss : List ShardSite) (clients : Table ℕ Client) (committed committed' : List (ℕ × List Entry)) (d : ℕ) (a : CoordAct) (h : CoordSite)
-    (out : Sends) (lines printed : List Line) → slice_get cs (coord_place d) ≡ Some h → CoordDid c d a h cs cs' committed committed' out lines printed
+    (out : Sends) (lines printed : List Line) → slice_get cs (coord_index d) ≡ Some h → CoordDid c d a h cs cs' committed committed' out lines printed
     → Acted (ByCoord d h.node a) (deed_work (housed c cs ss clients committed) (ByCoord d h.node a)) (housed c cs ss clients committed) (housed c cs' ss clients committed') out lines printed
 coord_did c cs cs' ss clients committed committed' d a h out lines printed at did =
     let k : Course = course_for a.logs h.device in
@@ -114,15 +114,15 @@ coord_did c cs cs' ss clients committed committed' d a h out lines printed at di
     let deed : Deed = ByCoord d h.node a in
     let disk : disk_at old (Coord d) ≡ h.device = coord_disk c cs ss clients committed d h at in
     let went : (work_at old (Coord d) a.logs).course ≡ k = work_course old (Coord d) a.logs h.device disk in
-    let nodes : coord_nodes cs' ≡ slice_set (coord_nodes cs) (coord_place d) (coord_left k h.node a) =
-    ap coord_nodes did.sites ∙ map-set (λ (s : CoordSite). s.node) cs (coord_place d) did.left ∙ ap (slice_set (coord_nodes cs) (coord_place d)) did.done.node in
-    let devices : coord_devices cs' ≡ slice_set (coord_devices cs) (coord_place d) did.left.device =
-    ap coord_devices did.sites ∙ map-set (λ (s : CoordSite). s.device) cs (coord_place d) did.left in
+    let nodes : coord_nodes cs' ≡ slice_set (coord_nodes cs) (coord_index d) (coord_left k h.node a) =
+    ap coord_nodes did.sites ∙ map-set (λ (s : CoordSite). s.node) cs (coord_index d) did.left ∙ ap (slice_set (coord_nodes cs) (coord_index d)) did.done.node in
+    let devices : coord_devices cs' ≡ slice_set (coord_devices cs) (coord_index d) did.left.device =
+    ap coord_devices did.sites ∙ map-set (λ (s : CoordSite). s.device) cs (coord_index d) did.left in
     let same : with_disk old (Coord d) h.device ≡ (old.coords, old.shards) = ap (λ (xs : List Device). (xs, old.shards)) (coord_same_disk c cs ss clients committed d h at) in
-    let list : committed' ≡ ordered c (slice_set (coord_nodes cs) (coord_place d) (coord_left k h.node a)) [] committed (record_left k a.logs) =
+    let list : committed' ≡ ordered c (slice_set (coord_nodes cs) (coord_index d) (coord_left k h.node a)) [] committed (record_left k a.logs) =
     did.committed ∙ ap (λ (xs : List CoordNode). ordered c xs [] committed (record_left k a.logs)) nodes in
     record {
-      parties = ap (λ (xs : List CoordNode). with_coords old.parties xs committed') nodes ∙ ap (with_coords old.parties (slice_set (coord_nodes cs) (coord_place d) (coord_left k h.node a))) list
+      parties = ap (λ (xs : List CoordNode). with_coords old.parties xs committed') nodes ∙ ap (with_coords old.parties (slice_set (coord_nodes cs) (coord_index d) (coord_left k h.node a))) list
           ∙ sym (along_parties old.parties d h.node k a.logs a.after a.sends a.spent) ∙ ap (λ (j : Course). moved old.parties (along j deed)) (sym went);
       disks = work_disks old (Coord d) a.logs h.device did.left.device disk same did.done.device ∙ ap (λ (xs : List Device). Some (xs, old.shards)) (sym devices);
       sends = did.done.sends ∙ sym (along_sends d h.node k a.logs a.after a.sends a.spent) ∙ ap (λ (j : Course). sends_of (along j deed)) (sym went);
@@ -143,34 +143,34 @@ get_set (y ∷ xs) zero x h = refl
 get_set (y ∷ xs) (suc i) x h = let h' : i < length xs = omega arith in get_set xs i x h'
 
 pub coord_collects : (c : Layout) (d : ℕ) (a : CoordAct) (h left : CoordSite) (cs cs' : List CoordSite) (committed committed' : List (ℕ × List Entry)) (out : Sends) (lines printed : List Line)
-    → CoordDone c d a h left out lines printed → cs' ≡ slice_set cs (coord_place d) left → coord_place d < length cs
-    → ((x : CoordNode) (log : List Record) (l : Option Record) → slice_get (coord_nodes cs') (coord_place d) ≡ Some x → x.log ≡ logged log l → length log ≡ length h.node.log
+    → CoordDone c d a h left out lines printed → cs' ≡ slice_set cs (coord_index d) left → coord_index d < length cs
+    → ((x : CoordNode) (log : List Record) (l : Option Record) → slice_get (coord_nodes cs') (coord_index d) ≡ Some x → x.log ≡ logged log l → length log ≡ length h.node.log
     → committed' ≡ ordered c (coord_nodes cs') [] committed l)
     → CoordDid c d a h cs cs' committed committed' out lines printed
 coord_collects c d a h left cs cs' committed committed' out lines printed done sites within noted =
     let k : Course = course_for a.logs h.device in
-    let at : slice_get (coord_nodes cs') (coord_place d) ≡ Some left.node =
-    ap (λ (xs : List CoordSite). slice_get (coord_nodes xs) (coord_place d)) sites
-    ∙ slice_get-map (λ (s : CoordSite). s.node) (slice_set cs (coord_place d) left) (coord_place d)
-    ∙ ap (option_map (λ (s : CoordSite). s.node)) (get_set cs (coord_place d) left within) in
+    let at : slice_get (coord_nodes cs') (coord_index d) ≡ Some left.node =
+    ap (λ (xs : List CoordSite). slice_get (coord_nodes xs) (coord_index d)) sites
+    ∙ slice_get-map (λ (s : CoordSite). s.node) (slice_set cs (coord_index d) left) (coord_index d)
+    ∙ ap (option_map (λ (s : CoordSite). s.node)) (get_set cs (coord_index d) left within) in
     let log : left.node.log ≡ logged h.node.log (record_left k a.logs) = ap (λ (x : CoordNode). x.log) done.node ∙ left_log k h.node a.logs a.after a.sends a.spent in
     record { left = left; done = done; sites = sites; committed = noted left.node h.node.log (record_left k a.logs) at log refl }
 
 pub coord_deed : (c : Layout) (cs cs' : List CoordSite) (ss : List ShardSite) (clients : Table ℕ Client) (committed committed' : List (ℕ × List Entry)) (d : ℕ) (does : CoordNode → CoordAct)
-    (out : Sends) (lines printed : List Line) → coord_place d < length cs
-    → ((h : CoordSite) → slice_get cs (coord_place d) ≡ Some h → h.node.up ≡ false → CoordIdle cs cs' committed committed' out lines printed)
-    → ((h : CoordSite) → slice_get cs (coord_place d) ≡ Some h → h.node.up ≡ true → CoordDid c d (does h.node) h cs cs' committed committed' out lines printed)
+    (out : Sends) (lines printed : List Line) → coord_index d < length cs
+    → ((h : CoordSite) → slice_get cs (coord_index d) ≡ Some h → h.node.up ≡ false → CoordIdle cs cs' committed committed' out lines printed)
+    → ((h : CoordSite) → slice_get cs (coord_index d) ≡ Some h → h.node.up ≡ true → CoordDid c d (does h.node) h cs cs' committed committed' out lines printed)
     → let deed = coord_does (housed c cs ss clients committed).parties d does in
     Acted deed (deed_work (housed c cs ss clients committed) deed) (housed c cs ss clients committed) (housed c cs' ss clients committed') out lines printed
-coord_deed c cs cs' ss clients committed committed' d does out lines printed within idles dids = by_site (slice_get cs (coord_place d)) refl
+coord_deed c cs cs' ss clients committed committed' d does out lines printed within idles dids = by_site (slice_get cs (coord_index d)) refl
   where
     Goal : Deed → Type 0
     Goal deed = Acted deed (deed_work (housed c cs ss clients committed) deed) (housed c cs ss clients committed) (housed c cs' ss clients committed') out lines printed
 
-    deed_at : (h : CoordSite) → slice_get cs (coord_place d) ≡ Some h → coord_does (housed c cs ss clients committed).parties d does ≡ (if h.node.up then ByCoord d h.node (does h.node) else Idle)
-    deed_at h at = ap (λ (o : Option CoordNode). maybe o Idle (λ x. if x.up then ByCoord d x (does x) else Idle)) (slice_get-map (λ (s : CoordSite). s.node) cs (coord_place d) ∙ ap (option_map (λ (s : CoordSite). s.node)) at)
+    deed_at : (h : CoordSite) → slice_get cs (coord_index d) ≡ Some h → coord_does (housed c cs ss clients committed).parties d does ≡ (if h.node.up then ByCoord d h.node (does h.node) else Idle)
+    deed_at h at = ap (λ (o : Option CoordNode). maybe o Idle (λ x. if x.up then ByCoord d x (does x) else Idle)) (slice_get-map (λ (s : CoordSite). s.node) cs (coord_index d) ∙ ap (option_map (λ (s : CoordSite). s.node)) at)
 
-    by_up : (h : CoordSite) → slice_get cs (coord_place d) ≡ Some h → (up : Bool) → h.node.up ≡ up → Goal (if up then ByCoord d h.node (does h.node) else Idle)
+    by_up : (h : CoordSite) → slice_get cs (coord_index d) ≡ Some h → (up : Bool) → h.node.up ≡ up → Goal (if up then ByCoord d h.node (does h.node) else Idle)
     by_up h at true is = coord_did c cs cs' ss clients committed committed' d (does h.node) h out lines printed at (dids h at is)
     by_up h at false is =
         let i = idles h at is in
@@ -178,25 +178,25 @@ coord_deed c cs cs' ss clients committed committed' d does out lines printed wit
         (subst (λ (ts : List (ℕ × List Entry)). Acted Idle no_work (housed c cs ss clients committed) (housed c cs ss clients ts) out lines printed) (sym i.committed)
         (idle Idle refl (housed c cs ss clients committed) out lines printed i.sends i.prints))
 
-    by_site : (o : Option CoordSite) → slice_get cs (coord_place d) ≡ o → Goal (coord_does (housed c cs ss clients committed).parties d does)
-    by_site None at = absurd (within_some cs (coord_place d) within at)
+    by_site : (o : Option CoordSite) → slice_get cs (coord_index d) ≡ o → Goal (coord_does (housed c cs ss clients committed).parties d does)
+    by_site None at = absurd (within_some cs (coord_index d) within at)
     by_site (Some h) at = subst Goal (sym (deed_at h at)) (by_up h at h.node.up refl)
 
 pub coord_deed_at : (c : Layout) (cs cs' : List CoordSite) (ss : List ShardSite) (clients : Table ℕ Client) (committed committed' : List (ℕ × List Entry)) (q : Housed) (d : ℕ) (does : Layout → CoordNode → CoordAct)
-    (out : Sends) (lines printed : List Line) → housed c cs ss clients committed ≡ q → coord_place d < length cs
-    → ((h : CoordSite) → slice_get cs (coord_place d) ≡ Some h → h.node.up ≡ false → CoordIdle cs cs' committed committed' out lines printed)
-    → ((h : CoordSite) → slice_get cs (coord_place d) ≡ Some h → h.node.up ≡ true → CoordDid c d (does c h.node) h cs cs' committed committed' out lines printed)
+    (out : Sends) (lines printed : List Line) → housed c cs ss clients committed ≡ q → coord_index d < length cs
+    → ((h : CoordSite) → slice_get cs (coord_index d) ≡ Some h → h.node.up ≡ false → CoordIdle cs cs' committed committed' out lines printed)
+    → ((h : CoordSite) → slice_get cs (coord_index d) ≡ Some h → h.node.up ≡ true → CoordDid c d (does c h.node) h cs cs' committed committed' out lines printed)
     → let deed = coord_does q.parties d (does q.parties.layout) in Acted deed (deed_work q deed) q (housed c cs' ss clients committed') out lines printed
 coord_deed_at c cs cs' ss clients committed committed' q d does out lines printed is within idles dids =
     subst (λ (r : Housed). let deed = coord_does r.parties d (does r.parties.layout) in Acted deed (deed_work r deed) r (housed c cs' ss clients committed') out lines printed) is
     (coord_deed c cs cs' ss clients committed committed' d (does c) out lines printed within idles dids)
 
 pub coord_past : (c : Layout) (cs : List CoordSite) (ss : List ShardSite) (clients : Table ℕ Client) (committed : List (ℕ × List Entry)) (q : Housed) (d : ℕ) (does : Layout → CoordNode → CoordAct)
-    (out : Sends) (lines : List Line) → housed c cs ss clients committed ≡ q → length cs ≤ coord_place d → out ≡ []
+    (out : Sends) (lines : List Line) → housed c cs ss clients committed ≡ q → length cs ≤ coord_index d → out ≡ []
     → let deed = coord_does q.parties d (does q.parties.layout) in Acted deed (deed_work q deed) q q out lines lines
 coord_past c cs ss clients committed q d does out lines is past none =
     let none_there : coord_does (housed c cs ss clients committed).parties d (does c) ≡ Idle =
-    ap (λ (o : Option CoordNode). maybe o Idle (λ x. if x.up then ByCoord d x (does c x) else Idle)) (slice_get-map (λ (s : CoordSite). s.node) cs (coord_place d) ∙ ap (option_map (λ (s : CoordSite). s.node)) (slice_get_past cs (coord_place d) past)) in
+    ap (λ (o : Option CoordNode). maybe o Idle (λ x. if x.up then ByCoord d x (does c x) else Idle)) (slice_get-map (λ (s : CoordSite). s.node) cs (coord_index d) ∙ ap (option_map (λ (s : CoordSite). s.node)) (slice_get_past cs (coord_index d) past)) in
     subst (λ (r : Housed). let deed = coord_does r.parties d (does r.parties.layout) in Acted deed (deed_work r deed) r r out lines lines) is
     (idle (coord_does (housed c cs ss clients committed).parties d (does c)) none_there (housed c cs ss clients committed) out lines lines none refl)
 
@@ -207,20 +207,20 @@ coord_lacks d x (Stops kept) None after sends spent is none = rw is refl
 coord_lacks d x (Stops kept) (Some r) after sends spent is none = absurd (cc)
 
 pub coord_refused_at : (c : Layout) (cs : List CoordSite) (ss : List ShardSite) (clients : Table ℕ Client) (committed : List (ℕ × List Entry)) (q : Housed) (d : ℕ) (does : Layout → CoordNode → CoordAct) (e : ActFault)
-    → housed c cs ss clients committed ≡ q → coord_place d < length cs
-    → ((h : CoordSite) → slice_get cs (coord_place d) ≡ Some h → (h.node.up ≡ true) × Lacking e (does c h.node)) → Refuses e (coord_does q.parties d (does q.parties.layout))
-coord_refused_at c cs ss clients committed q d does e is within lacking = subst (λ (r : Housed). Refuses e (coord_does r.parties d (does r.parties.layout))) is (by_site (slice_get cs (coord_place d)) refl)
+    → housed c cs ss clients committed ≡ q → coord_index d < length cs
+    → ((h : CoordSite) → slice_get cs (coord_index d) ≡ Some h → (h.node.up ≡ true) × Lacking e (does c h.node)) → Refuses e (coord_does q.parties d (does q.parties.layout))
+coord_refused_at c cs ss clients committed q d does e is within lacking = subst (λ (r : Housed). Refuses e (coord_does r.parties d (does r.parties.layout))) is (by_site (slice_get cs (coord_index d)) refl)
   where
     by_fault : (x : CoordNode) (f : ActFault) → Lacking f (does c x) → Refuses f (ByCoord d x (does c x))
     by_fault x NoMemory lacks = tt
     by_fault x VersionSpent lacks = absurd lacks
     by_fault x BallotsSpent lacks = λ k. let a : CoordAct = does c x in coord_lacks d x k a.logs a.after a.sends a.spent lacks.0 lacks.1
 
-    by_site : (o : Option CoordSite) → slice_get cs (coord_place d) ≡ o → Refuses e (coord_does (housed c cs ss clients committed).parties d (does c))
-    by_site None at = absurd (within_some cs (coord_place d) within at)
+    by_site : (o : Option CoordSite) → slice_get cs (coord_index d) ≡ o → Refuses e (coord_does (housed c cs ss clients committed).parties d (does c))
+    by_site None at = absurd (within_some cs (coord_index d) within at)
     by_site (Some h) at =
         let deed_at : coord_does (housed c cs ss clients committed).parties d (does c) ≡ ByCoord d h.node (does c h.node) =
-        ap (λ (o : Option CoordNode). maybe o Idle (λ x. if x.up then ByCoord d x (does c x) else Idle)) (slice_get-map (λ (s : CoordSite). s.node) cs (coord_place d) ∙ ap (option_map (λ (s : CoordSite). s.node)) at)
+        ap (λ (o : Option CoordNode). maybe o Idle (λ x. if x.up then ByCoord d x (does c x) else Idle)) (slice_get-map (λ (s : CoordSite). s.node) cs (coord_index d) ∙ ap (option_map (λ (s : CoordSite). s.node)) at)
         ∙ ap (λ (up : Bool). if up then ByCoord d h.node (does c h.node) else Idle) (lacking h at).0 in
         subst (Refuses e) (sym deed_at) (by_fault h.node e (lacking h at).1)
 

@@ -6,12 +6,12 @@ use Rattle.rc_ids.specs.declared.names.Party.{Party}
 use Rattle.rc_ids.specs.declared.names.Party.TheVariants.{Node, Client as ClientOf}
 use Rattle.rc_msg.specs.declared.msg.Envelope.{Envelope}
 use Rattle.rc_report.specs.declared.line.Line.{Line}
-use Rattle.rc_protocol.specs.declared.event.Event.{Event}
-use Rattle.rc_protocol.specs.declared.event.Event.TheVariants.{Begin, Read, Write, Commit, Cancel, Retry, Vanish, Take, Catch, Deliver, Lose, Crash, CrashAt, Restart}
+use Rattle.rc_runs.specs.declared.event.Event.{Event}
+use Rattle.rc_runs.specs.declared.event.Event.TheVariants.{Begin, Read, Write, Commit, Cancel, Retry, Vanish, Take, Catch, Deliver, Lose, Crash, CrashAt, Restart}
 use Rattle.rc_protocol.specs.Messages.{Sends}
-use Rattle.rc_protocol.specs.World.{Parties, Deed, Idle, deed, along, moved, lines_of, received, message, joined, starts, sends_of}
-use Rattle.rc_protocol.specs.Refusals.{worn_out}
-use Rattle.rc_protocol.specs.Session.{Session, DiskWork, disk_work}
+use Rattle.rc_runs.specs.World.{Parties, Deed, Idle, deed, along, moved, lines_of, received, message, joined, starts, sends_of}
+use Rattle.rc_runs.specs.Refusals.{worn_out}
+use Rattle.rc_runs.specs.Session.{Session, DiskWork, disk_work}
 use Rattle.rc_world.specs.Networks.{Network}
 use Rattle.rc_world.specs.Acted.{Housed, deed_work, does_by, disks_after, Acted}
 use Rattle.rc_world.specs.Sessions.{session_of, acts, actor_if_any, EventActed}

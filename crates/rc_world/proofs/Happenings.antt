@@ -12,13 +12,13 @@ use Rattle.rc_report.specs.declared.fault.Which.{Which}
 use Rattle.rc_report.specs.declared.fault.Which.TheVariants.{TextBytes, Transactions, Events}
 use Rattle.rc_report.specs.declared.fault.Wrong.{Wrong}
 use Rattle.rc_report.specs.declared.fault.Wrong.TheVariants.{NotSent}
-use Rattle.rc_protocol.specs.declared.event.Event.{Event}
-use Rattle.rc_protocol.specs.declared.event.Event.TheVariants.{Begin, Read, Write, Commit, Cancel, Retry, Vanish, Take, Catch, Deliver, Lose, Crash, CrashAt, Restart}
+use Rattle.rc_runs.specs.declared.event.Event.{Event}
+use Rattle.rc_runs.specs.declared.event.Event.TheVariants.{Begin, Read, Write, Commit, Cancel, Retry, Vanish, Take, Catch, Deliver, Lose, Crash, CrashAt, Restart}
 use Rattle.rc_protocol.specs.Messages.{Sends, client_of}
-use Rattle.rc_protocol.specs.World.{Parties, Deed, Course, actor, message, envelopes, bytes_of, numbers_after, deed, course_deed, printed, sends_of, step, still_pending, delivered_after}
-use Rattle.rc_protocol.specs.Refusals.{wrong, limit, worn_out, too_much_sent, begins, most_transactions, most_events}
-use Rattle.rc_protocol.specs.Devices.{Device}
-use Rattle.rc_protocol.specs.Session.{Session, Halt, Misnamed, Limited, FarmFails, DiskWork, disk_work, after_work, may_do, does, prints, happens, with_world, with_text, text_bytes, most_text_bytes}
+use Rattle.rc_runs.specs.World.{Parties, Deed, Course, actor, message, envelopes, bytes_of, numbers_after, deed, course_deed, printed, sends_of, step, still_pending, delivered_after}
+use Rattle.rc_runs.specs.Refusals.{wrong, limit, worn_out, too_much_sent, begins, most_transactions, most_events}
+use Rattle.rc_runs.specs.Devices.{Device}
+use Rattle.rc_runs.specs.Session.{Session, Halt, Misnamed, Limited, FarmFails, DiskWork, disk_work, after_work, may_do, does, prints, happens, with_world, with_text, text_bytes, most_text_bytes}
 use Rattle.rc_world.specs.Networks.{Network, posted, passed, too_much, numbers_of}
 use Rattle.rc_world.specs.Acted.{Housed, disks_after}
 use Rattle.rc_world.specs.Sessions.{session_of, actor_if_any, EventActed, Stepped, late_limit, network_of, early_limit, Halts, SendRefused, Overprints, ActRefused, fault_of_act, fault_of_limit}

@@ -6,11 +6,11 @@ use Rattle.rc_ids.specs.Tables.{maybe}
 use Rattle.rc_report.specs.declared.line.Line.{Line}
 use Rattle.rc_report.specs.declared.line.Line.TheVariants.{Settled}
 use Rattle.rc_report.specs.declared.fault.Which.TheVariants.{Events}
-use Rattle.rc_protocol.specs.declared.event.Event.{Event}
-use Rattle.rc_protocol.specs.declared.event.Event.TheVariants.{Deliver}
-use Rattle.rc_protocol.specs.World.{World}
-use Rattle.rc_protocol.specs.Session.{Session, Went, Halt, Limited, Misnamed, happens, prints}
-use Rattle.rc_protocol.specs.Script.{LineDone, line_done, then_line, goes_on, by_event, by_lines, idle, oldest, steps, settles}
+use Rattle.rc_runs.specs.declared.event.Event.{Event}
+use Rattle.rc_runs.specs.declared.event.Event.TheVariants.{Deliver}
+use Rattle.rc_runs.specs.World.{World}
+use Rattle.rc_runs.specs.Session.{Session, Went, Halt, Limited, Misnamed, happens, prints}
+use Rattle.rc_runs.specs.Script.{LineDone, line_done, then_line, goes_on, by_event, by_lines, idle, oldest, steps, settles}
 use Rattle.rc_world.specs.Networks as networks
 use Rattle.rc_world.specs.declared.fault.SessionFault.{SessionFault}
 use Rattle.rc_world.specs.declared.fault.SessionFault.TheVariants.{NoMemory, Naming, Limit}

@@ -9,10 +9,10 @@ use Rattle.rc_ids.specs.declared.names.NodeId.{NodeId}
 use Rattle.rc_ids.specs.declared.names.NodeId.TheVariants.{Coord, Shard as ShardServer}
 use Rattle.rc_body.specs.declared.entry.Entry.{Entry}
 use Rattle.rc_protocol.specs.Nodes.{CoordNode, ShardNode, coord_started, shard_started}
-use Rattle.rc_protocol.specs.Devices.{Device}
-use Rattle.rc_protocol.specs.Session.{Session, Halt}
-use Rattle.rc_protocol.specs.Stored.{Begun, in_memory, begins_all, and_then, with_rest, nodes_of, nodes_of_dc, if_coord, if_shard, with_logs, all_choices, coords_of, shards_of, session_from, new_session}
-use Rattle.rc_protocol.specs.World.{started_world}
+use Rattle.rc_runs.specs.Devices.{Device}
+use Rattle.rc_runs.specs.Session.{Session, Halt}
+use Rattle.rc_runs.specs.Stored.{Begun, in_memory, begins_all, and_then, with_rest, nodes_of, nodes_of_dc, if_coord, if_shard, with_logs, all_choices, coords_of, shards_of, session_from, new_session}
+use Rattle.rc_runs.specs.World.{started_world}
 use Rattle.rc_world.specs.Hosts.{CoordSite, ShardSite, coord_nodes, coord_devices, shard_nodes, shard_devices}
 use Rattle.rc_world.specs.Networks.{new_network}
 use Rattle.rc_world.specs.Acted.{housed}

@@ -14,11 +14,11 @@ use Rattle.rc_report.specs.declared.line.Line.{Line}
 use Rattle.rc_protocol.specs.Messages.{Sends}
 use Rattle.rc_protocol.specs.Client.{Client}
 use Rattle.rc_protocol.specs.Shard.{ShardAct, ShardVolatile}
-use Rattle.rc_protocol.specs.Nodes.{ShardNode, shard_place}
-use Rattle.rc_protocol.specs.World.{Parties, Deed, Idle, ByShard, Course, Goes, Stops, along, moved, sends_of, lines_of, with_shard, shard_does}
-use Rattle.rc_protocol.specs.Refusals.{worn_out}
-use Rattle.rc_protocol.specs.Devices.{Device}
-use Rattle.rc_protocol.specs.Session.{no_work, no_device}
+use Rattle.rc_protocol.specs.Nodes.{ShardNode, shard_index}
+use Rattle.rc_runs.specs.World.{Parties, Deed, Idle, ByShard, Course, Goes, Stops, along, moved, sends_of, lines_of, with_shard, shard_does}
+use Rattle.rc_runs.specs.Refusals.{worn_out}
+use Rattle.rc_runs.specs.Devices.{Device}
+use Rattle.rc_runs.specs.Session.{no_work, no_device}
 use Rattle.rc_world.specs.Hosts.{CoordSite, ShardSite, shard_nodes, shard_devices, shard_left, course_for, sends_left, lines_left}
 use Rattle.rc_world.specs.Acted.{Housed, housed, disk_at, with_disk, deed_work, Acted, ShardDid, ShardIdle}
 use Rattle.rc_world.proofs.Deeds.{within_some, set_same, work_at, work_course, work_disks, idle}
@@ -55,13 +55,13 @@ device_at : (ss : List ShardSite) (i : ℕ) (h : ShardSite) → slice_get ss i �
 device_at ss i h at = slice_get-map (λ (s : ShardSite). s.device) ss i ∙ ap (option_map (λ (s : ShardSite). s.device)) at
 
 pub shard_did : (c : Layout) (cs : List CoordSite) (ss ss' : List ShardSite) (clients : Table ℕ Client) (committed : List (ℕ × List Entry)) (d s : ℕ) (a : ShardAct) (h : ShardSite)
-    (out : Sends) (lines printed : List Line) → slice_get ss (shard_place c d s) ≡ Some h → ShardDid d s (shard_place c d s) a h ss ss' out lines printed
+    (out : Sends) (lines printed : List Line) → slice_get ss (shard_index c d s) ≡ Some h → ShardDid d s (shard_index c d s) a h ss ss' out lines printed
     → Acted (ByShard d s h.node a) (deed_work (housed c cs ss clients committed) (ByShard d s h.node a)) (housed c cs ss clients committed) (housed c cs ss' clients committed) out lines printed
 shard_did c cs ss ss' clients committed d s a h out lines printed at did =
     let k : Course = course_for a.logs h.device in
     let old : Housed = housed c cs ss clients committed in
     let deed : Deed = ByShard d s h.node a in
-    let i : ℕ = shard_place c d s in
+    let i : ℕ = shard_index c d s in
     let disk : disk_at old (ShardServer d s) ≡ h.device = ap (λ (o : Option Device). maybe o no_device (λ x. x)) (device_at ss i h at) in
     let went : (work_at old (ShardServer d s) a.logs).course ≡ k = work_course old (ShardServer d s) a.logs h.device disk in
     let nodes : shard_nodes ss' ≡ slice_set (shard_nodes ss) i (shard_left k h.node a) =
@@ -79,39 +79,39 @@ shard_did c cs ss ss' clients committed d s a h out lines printed at did =
     }
 
 does_at : (p : Parties) (d s : ℕ) (does : ShardNode → ShardAct) → is_shard p.layout s ≡ true
-    → shard_does p d s does ≡ maybe (slice_get p.shards (shard_place p.layout d s)) Idle (λ x. if x.up then ByShard d s x (does x) else Idle)
+    → shard_does p d s does ≡ maybe (slice_get p.shards (shard_index p.layout d s)) Idle (λ x. if x.up then ByShard d s x (does x) else Idle)
 does_at p d s does is = rw is refl
 
 pub shard_deed : (c : Layout) (cs : List CoordSite) (ss ss' : List ShardSite) (clients : Table ℕ Client) (committed : List (ℕ × List Entry)) (d s : ℕ) (does : ShardNode → ShardAct)
-    (out : Sends) (lines printed : List Line) → is_shard c s ≡ true → shard_place c d s < length ss
-    → ((h : ShardSite) → slice_get ss (shard_place c d s) ≡ Some h → h.node.up ≡ false → ShardIdle ss ss' out lines printed)
-    → ((h : ShardSite) → slice_get ss (shard_place c d s) ≡ Some h → h.node.up ≡ true → ShardDid d s (shard_place c d s) (does h.node) h ss ss' out lines printed)
+    (out : Sends) (lines printed : List Line) → is_shard c s ≡ true → shard_index c d s < length ss
+    → ((h : ShardSite) → slice_get ss (shard_index c d s) ≡ Some h → h.node.up ≡ false → ShardIdle ss ss' out lines printed)
+    → ((h : ShardSite) → slice_get ss (shard_index c d s) ≡ Some h → h.node.up ≡ true → ShardDid d s (shard_index c d s) (does h.node) h ss ss' out lines printed)
     → let deed = shard_does (housed c cs ss clients committed).parties d s does in
     Acted deed (deed_work (housed c cs ss clients committed) deed) (housed c cs ss clients committed) (housed c cs ss' clients committed) out lines printed
-shard_deed c cs ss ss' clients committed d s does out lines printed is_there within idles dids = by_site (slice_get ss (shard_place c d s)) refl
+shard_deed c cs ss ss' clients committed d s does out lines printed is_there within idles dids = by_site (slice_get ss (shard_index c d s)) refl
   where
     Goal : Deed → Type 0
     Goal deed = Acted deed (deed_work (housed c cs ss clients committed) deed) (housed c cs ss clients committed) (housed c cs ss' clients committed) out lines printed
 
-    deed_at : (h : ShardSite) → slice_get ss (shard_place c d s) ≡ Some h → shard_does (housed c cs ss clients committed).parties d s does ≡ (if h.node.up then ByShard d s h.node (does h.node) else Idle)
+    deed_at : (h : ShardSite) → slice_get ss (shard_index c d s) ≡ Some h → shard_does (housed c cs ss clients committed).parties d s does ≡ (if h.node.up then ByShard d s h.node (does h.node) else Idle)
     deed_at h at = does_at (housed c cs ss clients committed).parties d s does is_there
-        ∙ ap (λ (o : Option ShardNode). maybe o Idle (λ x. if x.up then ByShard d s x (does x) else Idle)) (slice_get-map (λ (x : ShardSite). x.node) ss (shard_place c d s) ∙ ap (option_map (λ (x : ShardSite). x.node)) at)
+        ∙ ap (λ (o : Option ShardNode). maybe o Idle (λ x. if x.up then ByShard d s x (does x) else Idle)) (slice_get-map (λ (x : ShardSite). x.node) ss (shard_index c d s) ∙ ap (option_map (λ (x : ShardSite). x.node)) at)
 
-    by_up : (h : ShardSite) → slice_get ss (shard_place c d s) ≡ Some h → (up : Bool) → h.node.up ≡ up → Goal (if up then ByShard d s h.node (does h.node) else Idle)
+    by_up : (h : ShardSite) → slice_get ss (shard_index c d s) ≡ Some h → (up : Bool) → h.node.up ≡ up → Goal (if up then ByShard d s h.node (does h.node) else Idle)
     by_up h at true is = shard_did c cs ss ss' clients committed d s (does h.node) h out lines printed at (dids h at is)
     by_up h at false is =
         let i = idles h at is in
         subst (λ (xs : List ShardSite). Acted Idle no_work (housed c cs ss clients committed) (housed c cs xs clients committed) out lines printed) (sym i.sites)
         (idle Idle refl (housed c cs ss clients committed) out lines printed i.sends i.prints)
 
-    by_site : (o : Option ShardSite) → slice_get ss (shard_place c d s) ≡ o → Goal (shard_does (housed c cs ss clients committed).parties d s does)
-    by_site None at = absurd (within_some ss (shard_place c d s) within at)
+    by_site : (o : Option ShardSite) → slice_get ss (shard_index c d s) ≡ o → Goal (shard_does (housed c cs ss clients committed).parties d s does)
+    by_site None at = absurd (within_some ss (shard_index c d s) within at)
     by_site (Some h) at = subst Goal (sym (deed_at h at)) (by_up h at h.node.up refl)
 
 pub shard_deed_at : (c : Layout) (cs : List CoordSite) (ss ss' : List ShardSite) (clients : Table ℕ Client) (committed : List (ℕ × List Entry)) (q : Housed) (d s : ℕ) (does : Layout → ShardNode → ShardAct)
-    (out : Sends) (lines printed : List Line) → housed c cs ss clients committed ≡ q → 1 ≤ s → s ≤ c.shards → shard_place c d s < length ss
-    → ((h : ShardSite) → slice_get ss (shard_place c d s) ≡ Some h → h.node.up ≡ false → ShardIdle ss ss' out lines printed)
-    → ((h : ShardSite) → slice_get ss (shard_place c d s) ≡ Some h → h.node.up ≡ true → ShardDid d s (shard_place c d s) (does c h.node) h ss ss' out lines printed)
+    (out : Sends) (lines printed : List Line) → housed c cs ss clients committed ≡ q → 1 ≤ s → s ≤ c.shards → shard_index c d s < length ss
+    → ((h : ShardSite) → slice_get ss (shard_index c d s) ≡ Some h → h.node.up ≡ false → ShardIdle ss ss' out lines printed)
+    → ((h : ShardSite) → slice_get ss (shard_index c d s) ≡ Some h → h.node.up ≡ true → ShardDid d s (shard_index c d s) (does c h.node) h ss ss' out lines printed)
     → let deed = shard_does q.parties d s (does q.parties.layout) in Acted deed (deed_work q deed) q (housed c cs ss' clients committed) out lines printed
 shard_deed_at c cs ss ss' clients committed q d s does out lines printed is low high within idles dids =
     let such : is_shard c s ≡ true = grind (arith, nat_tests) in
@@ -119,13 +119,13 @@ shard_deed_at c cs ss ss' clients committed q d s does out lines printed is low 
     (shard_deed c cs ss ss' clients committed d s (does c) out lines printed such within idles dids)
 
 pub shard_past : (c : Layout) (cs : List CoordSite) (ss : List ShardSite) (clients : Table ℕ Client) (committed : List (ℕ × List Entry)) (q : Housed) (d s : ℕ) (does : Layout → ShardNode → ShardAct)
-    (out : Sends) (lines : List Line) → housed c cs ss clients committed ≡ q → 1 ≤ s → s ≤ c.shards → length ss ≤ shard_place c d s → out ≡ []
+    (out : Sends) (lines : List Line) → housed c cs ss clients committed ≡ q → 1 ≤ s → s ≤ c.shards → length ss ≤ shard_index c d s → out ≡ []
     → let deed = shard_does q.parties d s (does q.parties.layout) in Acted deed (deed_work q deed) q q out lines lines
 shard_past c cs ss clients committed q d s does out lines is low high past none =
     let such : is_shard c s ≡ true = grind (arith, nat_tests) in
     let none_there : shard_does (housed c cs ss clients committed).parties d s (does c) ≡ Idle =
     does_at (housed c cs ss clients committed).parties d s (does c) such
-    ∙ ap (λ (o : Option ShardNode). maybe o Idle (λ x. if x.up then ByShard d s x (does c x) else Idle)) (slice_get-map (λ (x : ShardSite). x.node) ss (shard_place c d s) ∙ ap (option_map (λ (x : ShardSite). x.node)) (slice_get_past ss (shard_place c d s) past)) in
+    ∙ ap (λ (o : Option ShardNode). maybe o Idle (λ x. if x.up then ByShard d s x (does c x) else Idle)) (slice_get-map (λ (x : ShardSite). x.node) ss (shard_index c d s) ∙ ap (option_map (λ (x : ShardSite). x.node)) (slice_get_past ss (shard_index c d s) past)) in
     subst (λ (r : Housed). let deed = shard_does r.parties d s (does r.parties.layout) in Acted deed (deed_work r deed) r r out lines lines) is
     (idle (shard_does (housed c cs ss clients committed).parties d s (does c)) none_there (housed c cs ss clients committed) out lines lines none refl)
 

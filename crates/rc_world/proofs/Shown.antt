@@ -7,7 +7,7 @@ use Rattle.rc_ids.specs.Tables.{maybe}
 use Rattle.rc_ids.specs.declared.names.NodeId.TheVariants.{Shard as ShardServer}
 use Rattle.rc_report.specs.declared.line.Line.{Line}
 use Rattle.rc_protocol.specs.Nodes.{ShardNode}
-use Rattle.rc_protocol.specs.Script.{row_lines}
+use Rattle.rc_runs.specs.Script.{row_lines}
 use Rattle.rc_world.specs.Hosts.{ShardSite, shard_nodes}
 use Rattle.rc_world.specs.Lines.{host_at, shown_at}
 use Rattle.rc_world.proofs.Sites.{shard_node_at}

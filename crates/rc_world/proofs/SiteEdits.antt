@@ -5,8 +5,8 @@ use Rattle.rc_ids.specs.Cluster.{Layout}
 use Rattle.rc_protocol.specs.Messages.{Sends}
 use Rattle.rc_protocol.specs.Coordinator.{do_catch as coord_catches, new_volatile as new_coord_volatile}
 use Rattle.rc_protocol.specs.Shard.{do_catch as shard_catches, new_volatile as new_shard_volatile}
-use Rattle.rc_protocol.specs.Nodes.{CoordNode, ShardNode, coord_place, coord_started, shard_started}
-use Rattle.rc_protocol.specs.Devices.{Device, opened_once}
+use Rattle.rc_protocol.specs.Nodes.{CoordNode, ShardNode, coord_index, coord_started, shard_started}
+use Rattle.rc_runs.specs.Devices.{Device, opened_once}
 use Rattle.rc_world.specs.Hosts.{CoordSite, ShardSite}
 use Rattle.rc_world.specs.Acted.{CoordStarts, ShardStarts, ShardOpens}
 use Rattle.rc_world.proofs.Sites.{taken}
@@ -32,9 +32,9 @@ shard_edit ss i v left h f read node device at =
     let same : v ≡ h = taken ss i v h read at in
     ap (slice_set ss i) (shard_is left (f v).node (f v).device node device ∙ ap f same)
 
-pub coord_begins : (c : Layout) (d : ℕ) (cs : List CoordSite) (i : ℕ) (v left h : CoordSite) (none out : Sends) → i ≡ coord_place d → v ≡ get_or cs i v
+pub coord_begins : (c : Layout) (d : ℕ) (cs : List CoordSite) (i : ℕ) (v left h : CoordSite) (none out : Sends) → i ≡ coord_index d → v ≡ get_or cs i v
     → left.node ≡ coord_started v.node.log → opened_once v.device ≡ Some left.device → none ≡ [] → out ≡ none ++ (coord_catches c d new_coord_volatile).sends
-    → slice_get cs (coord_place d) ≡ Some h → CoordStarts c d h cs (slice_set cs i left) out
+    → slice_get cs (coord_index d) ≡ Some h → CoordStarts c d h cs (slice_set cs i left) out
 coord_begins c d cs i v left h none out place read node device empty sends at =
     let same : v ≡ h = taken cs i v h read (ap (slice_get cs) place ∙ at) in
     record {

@@ -2,7 +2,7 @@
 use Rattle.std.proofs.Common.{◌≡◌, ℕ, zero, suc, ◌+◌, ◌<◌, ◌==◌, true, false, List, [], ◌∷◌, ◌++◌, length, take, drop, get_or, refl, ◌∙◌, ap, add-one, arith}
 use Rattle.std.proofs.lemmas.Bool.Decides.{nat_tests}
 use Rattle.std.specs.Prelude.{remove}
-use Rattle.rc_protocol.specs.World.{taken_out}
+use Rattle.rc_runs.specs.World.{taken_out}
 
 pass : (xs : List ℕ) (i n : ℕ) → i < length xs → (get_or xs i 0 == n) ≡ false → take i xs ++ taken_out (drop i xs) n ≡ take (suc i) xs ++ taken_out (drop (suc i) xs) n
 pass [] i n h ne = absurd (omega arith)

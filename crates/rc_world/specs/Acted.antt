@@ -15,18 +15,18 @@ use Rattle.rc_client.specs.declared.fault.ClientFault.{ClientFault}
 use Rattle.rc_client.specs.declared.fault.ClientFault.TheVariants.{NoMemory as ClientNoMemory, KeyWornOut}
 use Rattle.rc_coord.specs.declared.fault.CoordFault.{CoordFault}
 use Rattle.rc_coord.specs.declared.fault.CoordFault.TheVariants.{NoMemory as CoordNoMemory, BallotsSpent as CoordSpent}
-use Rattle.rc_protocol.specs.declared.event.Event.{Event}
-use Rattle.rc_protocol.specs.declared.event.Event.TheVariants.{Read, Write, Commit, Cancel, Retry, Vanish, Deliver}
+use Rattle.rc_runs.specs.declared.event.Event.{Event}
+use Rattle.rc_runs.specs.declared.event.Event.TheVariants.{Read, Write, Commit, Cancel, Retry, Vanish, Deliver}
 use Rattle.rc_protocol.specs.Messages.{Sends}
 use Rattle.rc_protocol.specs.Client.{Client, ClientAct, do_read, do_write, do_commit, do_cancel, do_retry, do_vanish, client_row, is_open}
 use Rattle.rc_protocol.specs.Coordinator.{CoordAct, do_catch, new_volatile}
 use Rattle.rc_protocol.specs.Shard.{ShardAct, do_catch as shard_catches, new_volatile as new_shard_volatile}
-use Rattle.rc_protocol.specs.Nodes.{coord_place, shard_place, coord_started, shard_started, coord_stopped, shard_stopped}
-use Rattle.rc_protocol.specs.Votes.{ordered}
-use Rattle.rc_protocol.specs.World.{Parties, Deed, Course, along, moved, sends_of, lines_of, message, new_start, coord_does, shard_does, client_does}
-use Rattle.rc_protocol.specs.Refusals.{is_full, worn_out}
-use Rattle.rc_protocol.specs.Devices.{Device, appended, powered, opened_once, armed}
-use Rattle.rc_protocol.specs.Session.{DiskWork, no_device, no_work, work_on, append_of, append_work}
+use Rattle.rc_protocol.specs.Nodes.{coord_index, shard_index, coord_started, shard_started, coord_stopped, shard_stopped}
+use Rattle.rc_runs.specs.Votes.{ordered}
+use Rattle.rc_runs.specs.World.{Parties, Deed, Course, along, moved, sends_of, lines_of, message, new_start, coord_does, shard_does, client_does}
+use Rattle.rc_runs.specs.Refusals.{is_full, worn_out}
+use Rattle.rc_runs.specs.Devices.{Device, appended, powered, opened_once, armed}
+use Rattle.rc_runs.specs.Session.{DiskWork, no_device, no_work, work_on, append_of, append_work}
 use Rattle.rc_world.specs.declared.fault.ActFault.{ActFault}
 use Rattle.rc_world.specs.declared.fault.ActFault.TheVariants.{NoMemory, VersionSpent, BallotsSpent}
 use Rattle.rc_world.specs.Hosts.{CoordSite, ShardSite, coord_nodes, coord_devices, shard_nodes, shard_devices, coord_act, shard_act, coord_left, shard_left, course_for, device_for, record_left, sends_left, lines_left}
@@ -54,12 +54,12 @@ housed c coords shards clients committed = record {
 
 -- DISKS
 abbrev pub disk_at : Housed → NodeId → Device
-disk_at h (Coord d) = maybe (slice_get h.coords (coord_place d)) no_device (λ x. x)
-disk_at h (ShardServer d s) = maybe (slice_get h.shards (shard_place h.parties.layout d s)) no_device (λ x. x)
+disk_at h (Coord d) = maybe (slice_get h.coords (coord_index d)) no_device (λ x. x)
+disk_at h (ShardServer d s) = maybe (slice_get h.shards (shard_index h.parties.layout d s)) no_device (λ x. x)
 
 abbrev pub with_disk : Housed → NodeId → Device → List Device × List Device
-with_disk h (Coord d) x = (slice_set h.coords (coord_place d) x, h.shards)
-with_disk h (ShardServer d s) x = (h.coords, slice_set h.shards (shard_place h.parties.layout d s) x)
+with_disk h (Coord d) x = (slice_set h.coords (coord_index d) x, h.shards)
+with_disk h (ShardServer d s) x = (h.coords, slice_set h.shards (shard_index h.parties.layout d s) x)
 
 -- what the deed asks of a disk
 abbrev pub deed_work : Housed → Deed → DiskWork
@@ -95,7 +95,7 @@ pub record CoordDone (c : Layout) (d : ℕ) (act : CoordAct) (old new : CoordSit
 pub record CoordDid (c : Layout) (d : ℕ) (act : CoordAct) (site : CoordSite) (old new : List CoordSite) (before after : List (ℕ × List Entry)) (out : Sends) (lines printed : List Line) : Type 0 where
   pub left : CoordSite
   pub done : CoordDone c d act site left out lines printed
-  pub sites : new ≡ slice_set old (coord_place d) left
+  pub sites : new ≡ slice_set old (coord_index d) left
   pub committed : after ≡ ordered c (coord_nodes new) [] before (record_left (course_for act.logs site.device) act.logs)
 
 -- a coordinator that is not up
@@ -156,7 +156,7 @@ pub record CoordStarts (c : Layout) (d : ℕ) (site : CoordSite) (old new : List
   pub left : CoordSite
   pub node : left.node ≡ coord_started site.node.log
   pub device : opened_once site.device ≡ Some left.device
-  pub sites : new ≡ slice_set old (coord_place d) left
+  pub sites : new ≡ slice_set old (coord_index d) left
   pub sends : out ≡ (do_catch c d new_volatile).sends
 
 pub record ShardStarts (d place : ℕ) (site : ShardSite) (old new : List ShardSite) (out : Sends) : Type 0 where

@@ -1,9 +1,9 @@
 -- Appends on a disk, as a node meets them.
 use Rattle.std.specs.Prelude.{◌≡◌, ℕ, ◌+◌, ◌-◌, true, ◌&&◌, nat_le, Option, Some, None, if◌then◌else◌}
 use Rattle.std.specs.Option.{option_map}
-use Rattle.rc_protocol.specs.World.{Course as ProtocolCourse, Goes as ProtocolGoes, Stops as ProtocolStops}
-use Rattle.rc_protocol.specs.Devices.{Device, Fate, course_of}
-use Rattle.rc_protocol.specs.Session.{after_append}
+use Rattle.rc_runs.specs.World.{Course as ProtocolCourse, Goes as ProtocolGoes, Stops as ProtocolStops}
+use Rattle.rc_runs.specs.Devices.{Device, Fate, course_of}
+use Rattle.rc_runs.specs.Session.{after_append}
 use Rattle.rc_world.specs.declared.disk.Course.{Course}
 use Rattle.rc_world.specs.declared.disk.Course.TheVariants.{Goes, Stops}
 

@@ -9,15 +9,15 @@ use Rattle.rc_report.specs.declared.line.Line.{Line}
 use Rattle.rc_report.specs.declared.line.Line.TheVariants.{Stopped}
 use Rattle.rc_coord.specs.declared.fault.CoordFault.{CoordFault}
 use Rattle.rc_coord.specs.declared.fault.CoordFault.TheVariants.{NoMemory as CoordNoMemory, BallotsSpent}
-use Rattle.rc_protocol.specs.declared.event.Event.{Event}
-use Rattle.rc_protocol.specs.declared.event.Event.TheVariants.{Take, Catch, Deliver}
+use Rattle.rc_runs.specs.declared.event.Event.{Event}
+use Rattle.rc_runs.specs.declared.event.Event.TheVariants.{Take, Catch, Deliver}
 use Rattle.rc_protocol.specs.Messages.{Sends}
 use Rattle.rc_protocol.specs.Coordinator.{CoordAct, coord_row, coord_stays, do_take, do_catch}
 use Rattle.rc_protocol.specs.Shard.{ShardAct, shard_row, shard_stays, do_catch as shard_catches}
 use Rattle.rc_protocol.specs.Nodes.{CoordNode, ShardNode, coord_after, shard_after, coord_stopped, shard_stopped}
-use Rattle.rc_protocol.specs.World.{Course, Goes, Stops, kept_record, message}
-use Rattle.rc_protocol.specs.Devices.{Device, appended, course_of, record_length}
-use Rattle.rc_protocol.specs.Session.{after_append}
+use Rattle.rc_runs.specs.World.{Course, Goes, Stops, kept_record, message}
+use Rattle.rc_runs.specs.Devices.{Device, appended, course_of, record_length}
+use Rattle.rc_runs.specs.Session.{after_append}
 
 pub record CoordSite : Type 0 where
   pub node : CoordNode

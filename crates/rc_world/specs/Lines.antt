@@ -4,12 +4,12 @@ use Rattle.rc_ids.specs.Tables.{maybe}
 use Rattle.rc_msg.specs.declared.msg.Envelope.{Envelope}
 use Rattle.rc_report.specs.declared.line.Line.{Line}
 use Rattle.rc_report.specs.declared.line.Line.TheVariants.{Pending as PendingLine}
-use Rattle.rc_protocol.specs.World.{message}
-use Rattle.rc_protocol.specs.Session.{Session, Went}
+use Rattle.rc_runs.specs.World.{message}
+use Rattle.rc_runs.specs.Session.{Session, Went}
 use Rattle.rc_ids.specs.declared.names.NodeId.TheVariants.{Shard as ShardServer}
 use Rattle.rc_protocol.specs.Nodes.{ShardNode}
 use Rattle.rc_world.specs.Hosts.{ShardSite}
-use Rattle.rc_protocol.specs.Script.{LineDone, then_line, row_lines}
+use Rattle.rc_runs.specs.Script.{LineDone, then_line, row_lines}
 use Rattle.rc_world.specs.declared.fault.SessionFault.{SessionFault}
 use Rattle.rc_world.specs.Sessions.{Halts, Halted, Performed, Stay}
 

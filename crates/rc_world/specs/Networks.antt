@@ -3,9 +3,9 @@ use Rattle.std.specs.Prelude.{ℕ, suc, ◌+◌, List, [], ◌∷◌, ◌++◌, 
 use Rattle.rc_msg.specs.declared.msg.Envelope.{Envelope}
 use Rattle.rc_report.specs.declared.fault.Which.{Which}
 use Rattle.rc_report.specs.declared.fault.Which.TheVariants.{Messages, MessageBytes}
-use Rattle.rc_protocol.specs.declared.event.Event.{Event}
-use Rattle.rc_protocol.specs.World.{still_pending, delivered_after}
-use Rattle.rc_protocol.specs.Refusals.{most_messages, most_message_bytes}
+use Rattle.rc_runs.specs.declared.event.Event.{Event}
+use Rattle.rc_runs.specs.World.{still_pending, delivered_after}
+use Rattle.rc_runs.specs.Refusals.{most_messages, most_message_bytes}
 
 -- the messages sent, the bytes of all, and the numbers of those that are pending and of those delivered
 pub record Network : Type 0 where

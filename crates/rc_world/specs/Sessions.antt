@@ -1,19 +1,19 @@
 -- How events and lines of a script end early.
 use Rattle.std.specs.Prelude.{◌≡◌, ℕ, ◌++◌, Bool, true, false, ◌&&◌, nat_le, nat_lt, if◌then◌else◌, List, Option, None, Some, Result, Ok, Err}
 use Rattle.rc_report.specs.declared.line.Line.{Line}
-use Rattle.rc_protocol.specs.declared.event.Event.{Event}
+use Rattle.rc_runs.specs.declared.event.Event.{Event}
 use Rattle.rc_ids.specs.Tables.{maybe}
 use Rattle.rc_ids.specs.declared.names.Party.{Party}
 use Rattle.rc_msg.specs.declared.msg.Envelope.{Envelope}
 use Rattle.rc_protocol.specs.Messages.{Sends}
-use Rattle.rc_protocol.specs.Refusals.{worn_out, too_much_sent}
-use Rattle.rc_protocol.specs.declared.event.Event.TheVariants.{Begin, Deliver, Lose, Crash, CrashAt, Restart}
-use Rattle.rc_protocol.specs.World.{World, step, Deed, actor, message, moved, joined, sends_of, course_deed, printed as printed_by}
-use Rattle.rc_protocol.specs.Script.{LineDone}
+use Rattle.rc_runs.specs.Refusals.{worn_out, too_much_sent}
+use Rattle.rc_runs.specs.declared.event.Event.TheVariants.{Begin, Deliver, Lose, Crash, CrashAt, Restart}
+use Rattle.rc_runs.specs.World.{World, step, Deed, actor, message, moved, joined, sends_of, course_deed, printed as printed_by}
+use Rattle.rc_runs.specs.Script.{LineDone}
 use Rattle.rc_report.specs.declared.fault.Which.{Which}
 use Rattle.rc_report.specs.declared.fault.Which.TheVariants.{Version, Ballots, Transactions, Events, TextBytes}
-use Rattle.rc_protocol.specs.Refusals.{begins, most_transactions, most_events}
-use Rattle.rc_protocol.specs.Session.{Session, Went, Halt, Misnamed, Limited, disk_work, most_text_bytes}
+use Rattle.rc_runs.specs.Refusals.{begins, most_transactions, most_events}
+use Rattle.rc_runs.specs.Session.{Session, Went, Halt, Misnamed, Limited, disk_work, most_text_bytes}
 use Rattle.rc_world.specs.Networks.{Network}
 use Rattle.rc_world.specs.Acted.{Housed, Refuses, disks_after}
 use Rattle.rc_world.specs.declared.fault.ActFault.{ActFault}

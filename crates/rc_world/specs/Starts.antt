@@ -8,8 +8,8 @@ use Rattle.rc_ids.specs.declared.names.NodeId.TheVariants.{Coord, Shard as Shard
 use Rattle.rc_record.specs.Heads.{new_head}
 use Rattle.rc_record.specs.declared.record.Record.TheVariants.{Head}
 use Rattle.rc_protocol.specs.Nodes.{coord_started, shard_started}
-use Rattle.rc_protocol.specs.Devices.{Device, new_device, created, appended, record_length}
-use Rattle.rc_protocol.specs.Stored.{Begun, in_memory, begins_node}
+use Rattle.rc_runs.specs.Devices.{Device, new_device, created, appended, record_length}
+use Rattle.rc_runs.specs.Stored.{Begun, in_memory, begins_node}
 use Rattle.rc_world.specs.Hosts.{CoordSite, ShardSite}
 
 -- the disk after the creation of the log and its head

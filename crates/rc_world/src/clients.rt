@@ -4,7 +4,7 @@ ghost use Rattle.std.specs.Ordering.{nat_cmp};
 ghost use Rattle.rc_ids.specs.Tables.{found};
 ghost use Rattle.rc_client.specs.Acts.{Does};
 ghost use Rattle.rc_protocol.specs.Client.{Client as ClientState};
-ghost use Rattle.rc_protocol.specs.World.{replaced};
+ghost use Rattle.rc_runs.specs.World.{replaced};
 ghost use Rattle.rc_world.specs.Acted.{client_act as client_act_lem, May, Wears};
 ghost use Rattle.rc_world.specs.declared.fault.ActFault.TheVariants.{NoMemory as OutOfMemory};
 
@@ -13,7 +13,7 @@ use crate::network::message;
 use rc_client::Client;
 use rc_ids::{Cluster, TxId};
 use rc_msg::{Envelope, Messages};
-use rc_protocol::Event;
+use rc_runs::Event;
 use rc_report::Lines;
 use std::alloc::Global;
 use std::collections::BTreeMap;

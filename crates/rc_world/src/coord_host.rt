@@ -1,12 +1,12 @@
 // A coordinator with its disk.
 ghost use Rattle.std.specs.Prelude.{◌≡◌, ◌<◌, ◌++◌, [], true, false, Some, None, IsTrue, OnOk, IfOk, IfErr, length, slice_get};
 ghost use Rattle.std.specs.List.{list_any};
-ghost use Rattle.rc_protocol.specs.Votes.{is_vote};
+ghost use Rattle.rc_runs.specs.Votes.{is_vote};
 ghost use Rattle.rc_ids.specs.Cluster.{is_dc};
 ghost use Rattle.rc_record.specs.CoordState.{new_durable};
 ghost use Rattle.rc_protocol.specs.Coordinator.{CoordAct, do_catch, new_volatile};
 ghost use Rattle.rc_protocol.specs.Nodes.{CoordNode, coord_after, coord_replayed, coord_started, coord_stopped};
-ghost use Rattle.rc_protocol.specs.Devices.{powered, armed, opened_once};
+ghost use Rattle.rc_runs.specs.Devices.{powered, armed, opened_once};
 ghost use Rattle.rc_coord.specs.Rows.{Handled};
 ghost use Rattle.rc_world.specs.Disks.{protocol_course};
 ghost use Rattle.rc_world.specs.Hosts.{CoordSite, coord_act as coord_act_lem, CoordWent, Lacks};
@@ -17,7 +17,7 @@ use crate::network::message;
 use rc_coord::{Coord, CoordFault};
 use rc_ids::{Ballot, Cluster, DcId, NoMemory, Outcome, TxId};
 use rc_msg::{Envelope, Messages};
-use rc_protocol::Event;
+use rc_runs::Event;
 use rc_record::Record;
 use std::alloc::Global;
 use std::marker::Model;

@@ -1,7 +1,7 @@
 // Coordinators at their places.
 ghost use Rattle.std.specs.Prelude.{◌≡◌, ◌<◌, ◌++◌, [], ◌∷◌, true, false, Some, IsTrue, OnOk, IfOk, IfErr, length, slice_get, slice_set};
 ghost use Rattle.rc_ids.specs.Cluster.{is_dc};
-ghost use Rattle.rc_protocol.specs.Nodes.{coord_place};
+ghost use Rattle.rc_protocol.specs.Nodes.{coord_index};
 ghost use Rattle.rc_world.specs.Hosts.{CoordSite, coord_act};
 ghost use Rattle.rc_world.specs.Acted.{CoordDone, CoordDid, CoordIdle, CoordStarts, Lacking, stopped_coord, armed_coord};
 ghost use Rattle.rc_ids.specs.declared.names.NodeId.TheVariants.{Coord as CoordName};
@@ -14,7 +14,7 @@ use crate::order::note_written;
 use rc_body::Body;
 use rc_ids::{Cluster, DcId, NoMemory, NodeId, TxId};
 use rc_msg::{Envelope, Messages};
-use rc_protocol::Event;
+use rc_runs::Event;
 use rc_report::{Line, Lines};
 use std::alloc::Global;
 
@@ -55,13 +55,13 @@ pub(crate) fn coord_acts(
     lines: &mut Lines,
 ) -> Result<Messages, ActFault>
     requires dc { IsTrue (is_dc cluster.now dc) }
-    requires inside { coord_place dc < length coords.old.items }
+    requires inside { coord_index dc < length coords.old.items }
     ensures length { length coords.new.items ≡ length coords.old.items }
-    ensures idle { IfOk result (λ out. (h : CoordSite) → slice_get coords.old.items (coord_place dc) ≡ Some h → h.node.up ≡ false
+    ensures idle { IfOk result (λ out. (h : CoordSite) → slice_get coords.old.items (coord_index dc) ≡ Some h → h.node.up ≡ false
         → CoordIdle coords.old.items coords.new.items committed.old.items committed.new.items out lines.old lines.new) }
-    ensures did { IfOk result (λ out. (h : CoordSite) → slice_get coords.old.items (coord_place dc) ≡ Some h → h.node.up ≡ true
+    ensures did { IfOk result (λ out. (h : CoordSite) → slice_get coords.old.items (coord_index dc) ≡ Some h → h.node.up ≡ true
         → CoordDid cluster.now dc (coord_act cluster.now dc sent.now event.now h.node) h coords.old.items coords.new.items committed.old.items committed.new.items out lines.old lines.new) }
-    ensures lacking { IfErr result (λ e. (h : CoordSite) → slice_get coords.old.items (coord_place dc) ≡ Some h
+    ensures lacking { IfErr result (λ e. (h : CoordSite) → slice_get coords.old.items (coord_index dc) ≡ Some h
         → (h.node.up ≡ true) × Lacking e (coord_act cluster.now dc sent.now event.now h.node)) }
 {
     let place = dc.0 as usize - 1;
@@ -80,10 +80,10 @@ pub(crate) fn coord_stops(
     dc: DcId,
     lines: &mut Lines,
 ) -> Result<(), NoMemory>
-    requires { coord_place dc < length coords.old.items }
+    requires { coord_index dc < length coords.old.items }
     ensures length { length coords.new.items ≡ length coords.old.items }
-    ensures stopped { (h : CoordSite) → slice_get coords.old.items (coord_place dc) ≡ Some h
-        → coords.new.items ≡ slice_set coords.old.items (coord_place dc) (stopped_coord h) }
+    ensures stopped { (h : CoordSite) → slice_get coords.old.items (coord_index dc) ≡ Some h
+        → coords.new.items ≡ slice_set coords.old.items (coord_index dc) (stopped_coord h) }
     ensures prints { OnOk result (lines.new ≡ lines.old ++ StoppedLine (CoordName dc) ∷ []) }
 {
     coords[dc.0 as usize - 1].stop();
@@ -92,11 +92,11 @@ pub(crate) fn coord_stops(
 
 /// The power of the disk of a datacentre's coordinator is to be cut at this call from now on.
 pub(crate) fn coord_arms(coords: &mut Vec<CoordHost>, dc: DcId, call: u32, pick: u8)
-    requires inside { coord_place dc < length coords.old.items }
-    requires up { (h : CoordSite) → slice_get coords.old.items (coord_place dc) ≡ Some h → h.node.up ≡ true }
+    requires inside { coord_index dc < length coords.old.items }
+    requires up { (h : CoordSite) → slice_get coords.old.items (coord_index dc) ≡ Some h → h.node.up ≡ true }
     ensures length { length coords.new.items ≡ length coords.old.items }
-    ensures armed { (h : CoordSite) → slice_get coords.old.items (coord_place dc) ≡ Some h
-        → coords.new.items ≡ slice_set coords.old.items (coord_place dc) (armed_coord call pick h) }
+    ensures armed { (h : CoordSite) → slice_get coords.old.items (coord_index dc) ≡ Some h
+        → coords.new.items ≡ slice_set coords.old.items (coord_index dc) (armed_coord call pick h) }
 {
     coords[dc.0 as usize - 1].arm(call, pick);
 }
@@ -108,9 +108,9 @@ pub(crate) fn coord_starts(
     cluster: &Cluster,
     dc: DcId,
 ) -> Result<Messages, NoMemory>
-    requires { coord_place dc < length coords.old.items }
+    requires { coord_index dc < length coords.old.items }
     ensures length { length coords.new.items ≡ length coords.old.items }
-    ensures started { IfOk result (λ out. (h : CoordSite) → slice_get coords.old.items (coord_place dc) ≡ Some h
+    ensures started { IfOk result (λ out. (h : CoordSite) → slice_get coords.old.items (coord_index dc) ≡ Some h
         → CoordStarts cluster.now dc h coords.old.items coords.new.items out) }
 {
     let mut out = Messages::new(alloc);

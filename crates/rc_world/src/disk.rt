@@ -1,7 +1,7 @@
 // A node's disk in memory, by its counters: no call fails there but by a cut of its power.
 ghost use Rattle.std.specs.Prelude.{◌≡◌, ◌<◌, ◌≤◌, ◌+◌, ◌-◌, [], true, false, Some, None, OnOk, IfOk, Option, ◌^◌, ℕ};
-ghost use Rattle.rc_protocol.specs.Devices.{new_device, appended, Made, powered, opened_once, armed};
-ghost use Rattle.rc_protocol.specs.Devices.{created, keeps};
+ghost use Rattle.rc_runs.specs.Devices.{new_device, appended, Made, powered, opened_once, armed};
+ghost use Rattle.rc_runs.specs.Devices.{created, keeps};
 ghost use Rattle.rc_disk.specs.declared.power.Cause.TheVariants.{ByCut};
 ghost use Rattle.rc_world.specs.Starts.{headed, Begins};
 ghost use Rattle.rc_world.specs.Disks.{Appended, falling as falling_lem, nearer_by_append as nearer_lem, reopened};
@@ -40,7 +40,7 @@ pub(crate) struct Disk {
 
 impl Model for Disk {
     ghost use Rattle.std.specs.Prelude.{◌≡◌, ◌≤◌, [], true, false, None};
-    ghost use Rattle.rc_protocol.specs.Devices.{Device};
+    ghost use Rattle.rc_runs.specs.Devices.{Device};
 
     ghost Value = { Device };
 

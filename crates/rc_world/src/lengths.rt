@@ -5,7 +5,7 @@ ghost use Rattle.std.specs.List.{flat_map};
 ghost use Rattle.rc_fields.specs.Spelling.{key_bytes};
 ghost use Rattle.rc_record.specs.Heads.{new_head};
 ghost use Rattle.rc_record.specs.declared.record.Record.TheVariants.{Head as HeadRecord};
-ghost use Rattle.rc_protocol.specs.Devices.{record_length};
+ghost use Rattle.rc_runs.specs.Devices.{record_length};
 
 use rc_body::{put_body, put_decision, put_page};
 use rc_fields::{put_key, put_node, put_u8, put_u32};

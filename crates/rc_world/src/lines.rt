@@ -2,16 +2,16 @@
 ghost use Rattle.std.specs.Prelude.{◌≡◌, ◌++◌, [], ◌∷◌, OnOk, IfErr, length};
 ghost use Rattle.rc_ids.specs.Texts.{gone};
 ghost use Rattle.rc_report.specs.declared.line.Line.TheVariants.{Settled as SettledLine, Order as OrderLine};
-ghost use Rattle.rc_protocol.specs.World.{order as order_lem};
-ghost use Rattle.rc_protocol.specs.Refusals.{most_events};
-ghost use Rattle.rc_protocol.specs.Script.{by_event, by_lines, each, steps, settles, pending_lines, shown_lines, performs};
+ghost use Rattle.rc_runs.specs.World.{order as order_lem};
+ghost use Rattle.rc_runs.specs.Refusals.{most_events};
+ghost use Rattle.rc_runs.specs.Script.{by_event, by_lines, each, steps, settles, pending_lines, shown_lines, performs};
 ghost use Rattle.rc_world.specs.Sessions.{Halted, Performed};
 ghost use Rattle.rc_world.specs.Lines.{Did, Ended};
 
 use crate::SessionFault;
 use crate::session::Session;
 use rc_ids::{DcId, Key, NoMemory, NodeId, TxId, Val};
-use rc_protocol::Event;
+use rc_runs::Event;
 use rc_report::{Line, Lines, Which};
 use rc_script::Command;
 use std::alloc::Global;

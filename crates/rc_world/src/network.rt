@@ -1,14 +1,14 @@
 // The network: all messages that were ever sent, and which of them are pending.
 ghost use Rattle.std.specs.Prelude.{◌≡◌, ◌≤◌, ◌+◌, ◌<◌, ◌++◌, OnOk, IfOk, None, length};
 ghost use Rattle.std.specs.Option.{option_copied};
-ghost use Rattle.rc_protocol.specs.World.{envelopes, bytes_of as bytes_of_lem, message as message_lem, taken_out, still_pending, delivered_after};
-ghost use Rattle.rc_protocol.specs.Refusals.{is_pending as is_pending_lem};
+ghost use Rattle.rc_runs.specs.World.{envelopes, bytes_of as bytes_of_lem, message as message_lem, taken_out, still_pending, delivered_after};
+ghost use Rattle.rc_runs.specs.Refusals.{is_pending as is_pending_lem};
 ghost use Rattle.rc_world.specs.Networks.{new_network, passed, numbers_of, posted, too_much, oldest as oldest_lem};
 
 use crate::disk::counted;
 use rc_ids::{NoMemory, NodeId, Party};
 use rc_msg::{Envelope, Messages, encode};
-use rc_protocol::Event;
+use rc_runs::Event;
 use rc_report::Which;
 use std::alloc::Global;
 use std::collections::VecDeque;

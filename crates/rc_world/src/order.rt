@@ -3,7 +3,7 @@ ghost use Rattle.std.specs.Prelude.{◌≡◌, ◌≤◌, ◌<◌, [], List, Opt
 ghost use Rattle.rc_ids.specs.declared.names.Outcome.TheVariants.{Commit as Committed};
 ghost use Rattle.rc_record.specs.declared.record.Record.{Record as RecordState};
 ghost use Rattle.rc_protocol.specs.Nodes.{CoordNode, logged};
-ghost use Rattle.rc_protocol.specs.Votes.{has_voted as has_voted_lem, voters as voters_lem, is_listed as is_listed_lem, commits_after, ordered};
+ghost use Rattle.rc_runs.specs.Votes.{has_voted as has_voted_lem, voters as voters_lem, is_listed as is_listed_lem, commits_after, ordered};
 ghost use Rattle.rc_world.specs.Hosts.{coord_nodes};
 
 use crate::coord_host::CoordHost;

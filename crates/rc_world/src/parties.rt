@@ -4,18 +4,18 @@ ghost use Rattle.std.specs.Option.{option_copied};
 ghost use Rattle.std.specs.Ordering.{nat_cmp};
 ghost use Rattle.rc_ids.specs.Cluster.{is_dc};
 ghost use Rattle.rc_ids.specs.Tables.{found, maybe};
-ghost use Rattle.rc_protocol.specs.Nodes.{coord_place, shard_place};
-ghost use Rattle.rc_protocol.specs.Refusals.{named_wrongly, is_begun as is_begun_lem};
+ghost use Rattle.rc_protocol.specs.Nodes.{coord_index, shard_index};
+ghost use Rattle.rc_runs.specs.Refusals.{named_wrongly, is_begun as is_begun_lem};
 ghost use Rattle.rc_body.specs.declared.entry.Entry.{Entry};
 ghost use Rattle.rc_protocol.specs.Client.{Client as ClientState};
-ghost use Rattle.rc_protocol.specs.World.{coord_does, shard_does, client_does, with_new_client, is_up as is_up_lem, stops, restarts, Idle};
+ghost use Rattle.rc_runs.specs.World.{coord_does, shard_does, client_does, with_new_client, is_up as is_up_lem, stops, restarts, Idle};
 ghost use Rattle.rc_ids.specs.declared.names.NodeId.TheVariants.{Coord as CoordName, Shard as ShardName};
 ghost use Rattle.std.specs.List.{flat_map};
 ghost use Rattle.std.specs.Prelude.{◌≤◌};
 ghost use Rattle.rc_ids.specs.Tables.{up_to};
-ghost use Rattle.rc_protocol.specs.Script.{shown_lines};
+ghost use Rattle.rc_runs.specs.Script.{shown_lines};
 ghost use Rattle.rc_world.specs.Lines.{host_at, shown_at};
-ghost use Rattle.rc_protocol.specs.Stored.{in_memory, new_session};
+ghost use Rattle.rc_runs.specs.Stored.{in_memory, new_session};
 ghost use Rattle.rc_world.specs.Networks.{new_network};
 ghost use Rattle.rc_world.specs.Starts.{coord_sites, shard_sites};
 ghost use Rattle.rc_world.specs.Sessions.{session_of};
@@ -33,7 +33,7 @@ use rc_body::Body;
 use rc_client::{Client, Phase};
 use rc_ids::{Cluster, DcId, Key, NoMemory, NodeId, Party, ShardId, TxId};
 use rc_msg::{Envelope, Messages};
-use rc_protocol::Event;
+use rc_runs::Event;
 use rc_report::{Lines, Wrong};
 use std::alloc::Global;
 use std::collections::BTreeMap;
@@ -265,7 +265,7 @@ impl Parties {
 
 /// The place of a shard server.
 fn place_of(cluster: &Cluster, dc: DcId, shard: ShardId) -> usize
-    ensures { result ≡ shard_place cluster.now dc shard }
+    ensures { result ≡ shard_index cluster.now dc shard }
 {
     (dc.0 as usize - 1) * cluster.shards() as usize + (shard.0 as usize - 1)
 }
@@ -440,7 +440,7 @@ fn show_one(
 /// Whether the coordinator of a datacentre is up.
 #[tactic(auto, using(crate::proofs::Sites::node_at))]
 fn coord_is_up(coords: &[CoordHost], dc: DcId) -> bool
-    ensures { result ≡ maybe (slice_get (coord_nodes coords.now) (coord_place dc)) false (λ x. x.up) }
+    ensures { result ≡ maybe (slice_get (coord_nodes coords.now) (coord_index dc)) false (λ x. x.up) }
 {
     match coords.get(dc.0 as usize - 1) {
         None => false,

@@ -2,13 +2,13 @@
 ghost use Rattle.std.specs.Prelude.{◌≡◌, ◌≤◌, ◌++◌, [], ◌∷◌, None, Some, Ok, OnOk, IfOk, IfErr, length, take, drop};
 ghost use Rattle.std.specs.List.{flat_map};
 ghost use Rattle.rc_report.specs.declared.line.Line.TheVariants.{Order as OrderLine, Pending as PendingLine};
-ghost use Rattle.rc_protocol.specs.World.{order as order_of};
-ghost use Rattle.rc_protocol.specs.Session.{prints, text_bytes as text_bytes_lem};
-ghost use Rattle.rc_protocol.specs.Script.{oldest as oldest_of, pending_lines, shown_lines};
+ghost use Rattle.rc_runs.specs.World.{order as order_of};
+ghost use Rattle.rc_runs.specs.Session.{prints, text_bytes as text_bytes_lem};
+ghost use Rattle.rc_runs.specs.Script.{oldest as oldest_of, pending_lines, shown_lines};
 ghost use Rattle.rc_world.specs.Lines.{Counts, Refuses, line_of};
-ghost use Rattle.rc_protocol.specs.Session.{happens};
-ghost use Rattle.rc_protocol.specs.Script.{performs};
-ghost use Rattle.rc_protocol.specs.Stored.{in_memory, new_session};
+ghost use Rattle.rc_runs.specs.Session.{happens};
+ghost use Rattle.rc_runs.specs.Script.{performs};
+ghost use Rattle.rc_runs.specs.Stored.{in_memory, new_session};
 ghost use Rattle.rc_world.specs.Sessions.{Halts, Halted, Performed, Happened, Stay, event_lines};
 
 use crate::SessionFault;
@@ -19,7 +19,7 @@ use crate::parties::Parties;
 use crate::world::happen_in;
 use rc_ids::{Cluster, DcId, NoMemory, Text};
 use rc_msg::Envelope;
-use rc_protocol::Event;
+use rc_runs::Event;
 use rc_report::{Line, Lines, Txs, Which, render};
 use rc_script::Command;
 use std::alloc::Global;
@@ -39,7 +39,7 @@ pub struct Session {
 }
 
 impl Model for Session {
-    ghost use Rattle.rc_protocol.specs.Session.{Session as SessionState};
+    ghost use Rattle.rc_runs.specs.Session.{Session as SessionState};
 
     ghost Value = { SessionState };
 

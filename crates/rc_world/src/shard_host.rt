@@ -3,9 +3,9 @@ ghost use Rattle.std.specs.Prelude.{◌≡◌, ◌<◌, ◌++◌, [], true, Some
 ghost use Rattle.rc_record.specs.ShardState.{new_durable};
 ghost use Rattle.rc_protocol.specs.Shard.{ShardAct, do_catch, new_volatile};
 ghost use Rattle.rc_protocol.specs.Nodes.{ShardNode, shard_after, shard_replayed, shard_started, shard_stopped};
-ghost use Rattle.rc_protocol.specs.Devices.{powered, armed, opened_once};
+ghost use Rattle.rc_runs.specs.Devices.{powered, armed, opened_once};
 ghost use Rattle.rc_ids.specs.declared.names.NodeId.TheVariants.{Shard as ShardName};
-ghost use Rattle.rc_protocol.specs.Script.{row_lines};
+ghost use Rattle.rc_runs.specs.Script.{row_lines};
 ghost use Rattle.rc_world.specs.Disks.{protocol_course};
 ghost use Rattle.rc_world.specs.Hosts.{ShardSite, shard_act as shard_act_lem, ShardWent};
 
@@ -14,7 +14,7 @@ use crate::lengths::record_len;
 use crate::network::message;
 use rc_ids::{Cluster, DcId, NoMemory, ShardId};
 use rc_msg::{Envelope, Messages};
-use rc_protocol::Event;
+use rc_runs::Event;
 use rc_report::Lines;
 use rc_shard::Shard;
 use std::alloc::Global;

@@ -9,7 +9,7 @@ use crate::disk::Course;
 use crate::shard_host::ShardHost;
 use rc_ids::{Cluster, DcId, NoMemory, NodeId, ShardId};
 use rc_msg::{Envelope, Messages};
-use rc_protocol::Event;
+use rc_runs::Event;
 use rc_report::{Line, Lines};
 use std::alloc::Global;
 

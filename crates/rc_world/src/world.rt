@@ -1,11 +1,11 @@
 // One event on parties and network.
 ghost use Rattle.std.specs.Prelude.{◌≡◌, ◌+◌, ◌<◌, ◌++◌, [], true, false, None, Some, Ok, OnOk, IfOk, IfErr, length};
 ghost use Rattle.std.specs.Option.{option_copied};
-ghost use Rattle.rc_protocol.specs.World.{envelopes, bytes_of as bytes_of_lem, deed};
+ghost use Rattle.rc_runs.specs.World.{envelopes, bytes_of as bytes_of_lem, deed};
 ghost use Rattle.std.specs.Prelude.{nat_lt};
 ghost use Rattle.rc_report.specs.Lines.{line_text};
-ghost use Rattle.rc_protocol.specs.Refusals.{wrong, wants_up};
-ghost use Rattle.rc_protocol.specs.Session.{text_bytes, most_text_bytes, happens};
+ghost use Rattle.rc_runs.specs.Refusals.{wrong, wants_up};
+ghost use Rattle.rc_runs.specs.Session.{text_bytes, most_text_bytes, happens};
 ghost use Rattle.rc_world.specs.Networks.{passed, posted, too_much};
 ghost use Rattle.rc_world.specs.declared.fault.ActFault.TheVariants.{NoMemory as OutOfMemory};
 ghost use Rattle.rc_world.specs.Sessions.{session_of, actor_if_any, acts as acts_lem, EventActed, ActRefused, Stepped, late_limit, Halts, Happened, Stay, event_lines, fault_of_limit, SendRefused, Overprints, early_limit as early_limit_lem};
@@ -17,7 +17,7 @@ use crate::network::{Network, addressed, bytes_of, message, same_party};
 use crate::parties::Parties;
 use rc_ids::{NoMemory, NodeId, Party, Text};
 use rc_msg::{Envelope, Messages};
-use rc_protocol::Event;
+use rc_runs::Event;
 use rc_report::{Line, Lines, Which, Wrong, render};
 use std::alloc::Global;
 

@@ -1,5 +1,5 @@
 use Rattle.std.proofs.Common.{◌≡◌, take}
-use Rattle.rc_protocol.specs.Text.{split_keys as split_keys_lem}
+use Rattle.rc_runs.specs.Text.{split_keys as split_keys_lem}
 use Rattle.rc_player.proofs.cluster.split_keys.Given as goal
 
 abbrev pub invariant-loop-line : goal.invariant-loop-line

@@ -1,5 +1,5 @@
 use Rattle.std.proofs.Common.{◌≤◌, drop}
-use Rattle.rc_protocol.specs.Text.{plays}
+use Rattle.rc_runs.specs.Text.{plays}
 use Rattle.rc_player.proofs.Pieces.{Ahead}
 use Rattle.rc_player.proofs.script.play_lines.Given as goal
 

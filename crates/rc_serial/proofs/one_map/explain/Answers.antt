@@ -1,6 +1,6 @@
 use Rattle.std.proofs.Common.{◌≡◌, ℕ, ◌+◌, ◌≤◌, List, ◌∷◌, Some, None, length, drop, refl, sym, subst}
 use Rattle.rc_ids.specs.Tables.{Table}
-use Rattle.rc_protocol.specs.OneMap.{Map}
+use Rattle.rc_serial.specs.OneMap.{Map}
 use Rattle.rc_serial.specs.declared.committed.Committed.{Committed}
 use Rattle.rc_serial.specs.Orders.{map_of, order_of, wrong_of}
 use Rattle.rc_serial.specs.Versions.{Agree}

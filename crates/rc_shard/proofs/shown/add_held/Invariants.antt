@@ -1,5 +1,5 @@
 use Rattle.std.proofs.Common.{◌≡◌}
-use Rattle.rc_protocol.specs.Script.{with_held}
+use Rattle.rc_protocol.specs.Shown.{with_held}
 use Rattle.rc_shard.proofs.shown.add_held.Given as goal
 
 abbrev pub invariant-loop-part : goal.invariant-loop-part

@@ -4,7 +4,7 @@ use Rattle.rc_ids.specs.Tables.{added}
 use Rattle.rc_ids.specs.Texts.{key_cmp}
 use Rattle.rc_body.specs.Entries.{seen}
 use Rattle.rc_body.specs.declared.entry.Entry.{Entry}
-use Rattle.rc_protocol.specs.Script.{with_written}
+use Rattle.rc_protocol.specs.Shown.{with_written}
 use Rattle.rc_shard.proofs.Rest.{rest_at}
 use Rattle.rc_shard.proofs.shown.add_written.Goals as goal
 

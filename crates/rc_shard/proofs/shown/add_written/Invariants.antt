@@ -1,5 +1,5 @@
 use Rattle.std.proofs.Common.{◌≡◌, drop}
-use Rattle.rc_protocol.specs.Script.{with_written}
+use Rattle.rc_protocol.specs.Shown.{with_written}
 use Rattle.rc_shard.proofs.shown.add_written.Given as goal
 
 abbrev pub invariant-loop-index : goal.invariant-loop-index

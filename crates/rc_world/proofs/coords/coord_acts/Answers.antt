@@ -1,8 +1,8 @@
 use Rattle.std.proofs.Common.{◌≡◌, ◌-◌, [], Some, length, ap, sym, subst, ◌∙◌, ℕ, List, Option}
 use Rattle.std.specs.Prelude.{slice_get, slice_set}
 use Rattle.rc_record.specs.declared.record.Record.{Record}
-use Rattle.rc_protocol.specs.Nodes.{CoordNode, coord_place, logged}
-use Rattle.rc_protocol.specs.Votes.{ordered}
+use Rattle.rc_protocol.specs.Nodes.{CoordNode, coord_index, logged}
+use Rattle.rc_runs.specs.Votes.{ordered}
 use Rattle.rc_world.specs.Hosts.{CoordSite, coord_act, coord_nodes}
 use Rattle.rc_world.specs.Acted.{CoordDone}
 use Rattle.rc_world.proofs.Deeds.{coord_collects}
@@ -11,7 +11,7 @@ use Rattle.rc_world.proofs.coords.coord_acts.Goals as goal
 
 pub returns-clause-did : goal.returns-clause-did
 returns-clause-did c = λ h at up.
-    let place : c.dc.inside.0 - 1 ≡ coord_place c.args.dc = (cc) in
+    let place : c.dc.inside.0 - 1 ≡ coord_index c.args.dc = (cc) in
     let here : slice_get c.args.coords.now.items (c.dc.inside.0 - 1) ≡ Some h = ap (slice_get c.args.coords.now.items) place ∙ at in
     let same : c.index_mut.result.now ≡ h = taken c.args.coords.now.items (c.dc.inside.0 - 1) c.index_mut.result.now h c.index_mut.ensures.value here in
     let read : c.index-2.result.now ≡ h = taken c.args.coords.now.items (c.dc.inside.0 - 1) c.index-2.result.now h c.index-2.ensures here in

@@ -1,6 +1,6 @@
 use Rattle.std.proofs.Common.{◌≡◌, drop}
-use Rattle.rc_protocol.specs.declared.event.Event.TheVariants.{Lose}
-use Rattle.rc_protocol.specs.Script.{then_line, each}
+use Rattle.rc_runs.specs.declared.event.Event.TheVariants.{Lose}
+use Rattle.rc_runs.specs.Script.{then_line, each}
 use Rattle.rc_world.proofs.lines.lose_each.Given as goal
 
 -- what is left to do, behind the lines so far, comes to what was to be done

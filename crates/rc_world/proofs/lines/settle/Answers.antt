@@ -3,8 +3,8 @@ use Rattle.std.proofs.lemmas.Result.{on_ok_weaker, IfErr-weaker}
 use Rattle.std.proofs.lemmas.List.{append-nil}
 use Rattle.rc_report.specs.declared.line.Line.TheVariants.{Settled}
 use Rattle.rc_report.specs.declared.fault.Which.TheVariants.{Events}
-use Rattle.rc_protocol.specs.declared.event.Event.TheVariants.{Deliver}
-use Rattle.rc_protocol.specs.Script.{LineDone, oldest, settles, then_line, by_event, by_lines, goes_on}
+use Rattle.rc_runs.specs.declared.event.Event.TheVariants.{Deliver}
+use Rattle.rc_runs.specs.Script.{LineDone, oldest, settles, then_line, by_event, by_lines, goes_on}
 use Rattle.rc_world.specs.declared.fault.SessionFault.TheVariants.{Limit}
 use Rattle.rc_world.specs.Lines.{Ended}
 use Rattle.rc_world.proofs.LineFacts.{settles-none, settles-some, settles-end, goes, stops, ends_so, performs_so}

@@ -1,5 +1,5 @@
 use Rattle.std.proofs.Common.{◌≡◌, ◌-◌}
-use Rattle.rc_protocol.specs.Script.{then_line, settles}
+use Rattle.rc_runs.specs.Script.{then_line, settles}
 use Rattle.rc_world.proofs.lines.settle.Given as goal
 
 -- what is left to settle, behind the lines so far, comes to settling all

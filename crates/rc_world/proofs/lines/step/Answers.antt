@@ -1,6 +1,6 @@
 use Rattle.std.proofs.Common.{◌≡◌, ℕ, suc, ◌+◌, ◌-◌, None, Some, sym, ◌∙◌, ap, arith}
-use Rattle.rc_protocol.specs.declared.event.Event.TheVariants.{Deliver}
-use Rattle.rc_protocol.specs.Script.{oldest, steps, then_line, by_event, idle, goes_on}
+use Rattle.rc_runs.specs.declared.event.Event.TheVariants.{Deliver}
+use Rattle.rc_runs.specs.Script.{oldest, steps, then_line, by_event, idle, goes_on}
 use Rattle.rc_world.proofs.LineFacts.{steps-zero, steps-none, steps-some, goes, stops, idles, ends_so, performs_so}
 use Rattle.rc_world.proofs.lines.step.Goals as goal
 

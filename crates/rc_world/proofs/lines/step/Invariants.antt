@@ -1,5 +1,5 @@
 use Rattle.std.proofs.Common.{◌≡◌, ◌-◌}
-use Rattle.rc_protocol.specs.Script.{then_line, steps}
+use Rattle.rc_runs.specs.Script.{then_line, steps}
 use Rattle.rc_world.proofs.lines.step.Given as goal
 
 -- the steps that are left, behind the lines so far, come to all steps

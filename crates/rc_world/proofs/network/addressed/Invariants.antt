@@ -1,5 +1,5 @@
 use Rattle.std.proofs.Common.{◌≡◌}
-use Rattle.rc_protocol.specs.World.{envelopes}
+use Rattle.rc_runs.specs.World.{envelopes}
 use Rattle.rc_world.proofs.network.addressed.Given as goal
 
 abbrev pub invariant-loop-to : goal.invariant-loop-to

@@ -1,5 +1,5 @@
 use Rattle.std.proofs.Common.{◌≡◌, take}
-use Rattle.rc_protocol.specs.World.{bytes_of}
+use Rattle.rc_runs.specs.World.{bytes_of}
 use Rattle.rc_world.proofs.network.bytes_of.Given as goal
 
 abbrev pub invariant-loop-letter : goal.invariant-loop-letter

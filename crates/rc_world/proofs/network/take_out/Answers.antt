@@ -1,5 +1,5 @@
 use Rattle.std.proofs.Common.{◌≡◌, ◌<◌, ◌∙◌, sym, ap, length, arith}
-use Rattle.rc_protocol.specs.World.{taken_out}
+use Rattle.rc_runs.specs.World.{taken_out}
 use Rattle.rc_world.proofs.Takes.{taken_out-here}
 use Rattle.rc_world.proofs.network.take_out.Goals as goal
 

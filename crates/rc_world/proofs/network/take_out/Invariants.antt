@@ -1,5 +1,5 @@
 use Rattle.std.proofs.Common.{◌≡◌, ◌++◌, length, take, drop}
-use Rattle.rc_protocol.specs.World.{taken_out}
+use Rattle.rc_runs.specs.World.{taken_out}
 use Rattle.rc_world.proofs.network.take_out.Given as goal
 
 -- nothing was taken yet, and the number does not stand before the place

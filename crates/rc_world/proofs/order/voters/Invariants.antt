@@ -1,6 +1,6 @@
 use Rattle.std.proofs.Common.{◌≡◌}
 use Rattle.rc_ids.specs.declared.names.Outcome.TheVariants.{Commit}
-use Rattle.rc_protocol.specs.Votes.{voters}
+use Rattle.rc_runs.specs.Votes.{voters}
 use Rattle.rc_world.specs.Hosts.{coord_nodes}
 use Rattle.rc_world.proofs.order.voters.Given as goal
 

@@ -1,5 +1,5 @@
 use Rattle.std.proofs.Common.{◌≡◌, take}
-use Rattle.rc_protocol.specs.Session.{text_bytes}
+use Rattle.rc_runs.specs.Session.{text_bytes}
 use Rattle.rc_world.proofs.session.text_bytes.Given as goal
 
 abbrev pub invariant-loop-line : goal.invariant-loop-line

@@ -1,5 +1,5 @@
 use Rattle.std.proofs.Common.{◌≡◌, drop}
-use Rattle.rc_protocol.specs.OneMap.{Map, wrong_entry}
+use Rattle.rc_serial.specs.OneMap.{Map, wrong_entry}
 use Rattle.rc_serial.specs.Versions.{versions_of}
 use Rattle.rc_serial.proofs.versions.Versions.first_wrong.Given as goal
 

@@ -1,5 +1,5 @@
 use Rattle.std.proofs.Common.{◌<◌, length}
-use Rattle.rc_protocol.specs.Nodes.{coord_place}
+use Rattle.rc_protocol.specs.Nodes.{coord_index}
 use Rattle.rc_world.proofs.Stops.{coord_inside, coord_up_at, coord_arm_at}
 use Rattle.rc_world.proofs.parties.Parties.arm_coord.Goals as goal
 
@@ -11,5 +11,5 @@ coord_arms-requires-clause-up c = λ h at. coord_up_at _ _ _ _ _ _ c.args.dc h c
 
 pub returns : goal.returns
 returns c =
-    let within : coord_place c.args.dc < length c.self.inside.coords.items = coord_inside _ _ _ _ _ _ c.args.dc c.self.view_is c.requires in
+    let within : coord_index c.args.dc < length c.self.inside.coords.items = coord_inside _ _ _ _ _ _ c.args.dc c.self.view_is c.requires in
     coord_arm_at _ c.self.inside.coords.items c.coord_arms.new.coords.items _ _ _ _ c.args.dc c.args.call c.args.pick _ c.self.view_is within c.coord_arms.ensures.armed

@@ -1,5 +1,5 @@
 use Rattle.std.proofs.Common.{ap}
-use Rattle.rc_protocol.specs.World.{with_new_client}
+use Rattle.rc_runs.specs.World.{with_new_client}
 use Rattle.rc_world.specs.Acted.{Housed}
 use Rattle.rc_world.proofs.parties.Parties.begin.Goals as goal
 

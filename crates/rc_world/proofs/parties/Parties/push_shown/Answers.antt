@@ -1,5 +1,5 @@
 use Rattle.std.proofs.Common.{◌≡◌, ◌++◌, OnOk, subst}
-use Rattle.rc_protocol.specs.Script.{shown_lines}
+use Rattle.rc_runs.specs.Script.{shown_lines}
 use Rattle.rc_world.specs.Acted.{Housed}
 use Rattle.rc_world.proofs.parties.Parties.push_shown.Goals as goal
 

@@ -1,6 +1,6 @@
 use Rattle.std.proofs.Common.{subst}
 use Rattle.std.proofs.lemmas.Result.{IfErr-weaker}
-use Rattle.rc_protocol.specs.Session.{Session, happens}
+use Rattle.rc_runs.specs.Session.{Session, happens}
 use Rattle.rc_world.specs.Sessions.{Halts}
 use Rattle.rc_world.proofs.session.Session.happen.Goals as goal
 
