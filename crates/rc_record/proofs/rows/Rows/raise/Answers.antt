@@ -1,4 +1,4 @@
-use Rattle.std.proofs.Common.{◌+◌, ℕ, List, sym, subst, arith}
+use Rattle.std.proofs.Common.{◌+◌, sym, subst, arith}
 use Rattle.rc_record.specs.Rows.{AreWritten}
 use Rattle.rc_record.proofs.RowFacts.{AreWritten-put}
 use Rattle.rc_record.proofs.rows.Rows.raise.Goals as goal
