@@ -59,28 +59,28 @@ unfoldable pub read_cancel_at : Reader Msg
 read_cancel_at = mapped_at (λ (f : TxKey). ReadCancel f.0 f.1) tx_key_at
 
 unfoldable pub granted_at : Reader Msg
-granted_at = mapped_at (λ (f : Grant). Granted f.0.0.0.0 f.0.0.0.1 f.0.0.1 f.0.1 f.1) grant_at
+granted_at = mapped_at (λ ((((t, k), d), version), value). Granted t k d version value) grant_at
 
 unfoldable pub propose_at : Reader Msg
-propose_at = mapped_at (λ (f : TxBallot × Decision). Propose f.0.0 f.0.1 f.1) (both_at tx_ballot_at decision_at)
+propose_at = mapped_at (λ ((t, b), o). Propose t b o) (both_at tx_ballot_at decision_at)
 
 unfoldable pub prepare_at : Reader Msg
 prepare_at = mapped_at (λ (f : ℕ × List Entry). Prepare f.0 f.1) (both_at tx_at body_at)
 
 unfoldable pub prepared_at : Reader Msg
-prepared_at = mapped_at (λ (f : (ℕ × ℕ) × Option Reason). Prepared f.0.0 f.0.1 f.1) (both_at (both_at tx_at shard_at) answer_at)
+prepared_at = mapped_at (λ ((t, s), reason). Prepared t s reason) (both_at (both_at tx_at shard_at) answer_at)
 
 unfoldable pub voted_at : Reader Msg
-voted_at = mapped_at (λ (f : (TxBallot × ℕ) × Decision). Voted f.0.0.0 f.0.0.1 f.0.1 f.1) (both_at (both_at tx_ballot_at dc_at) decision_at)
+voted_at = mapped_at (λ (((t, b), d), o). Voted t b d o) (both_at (both_at tx_ballot_at dc_at) decision_at)
 
 unfoldable pub refused_at : Reader Msg
-refused_at = mapped_at (λ (f : (TxBallot × ℕ) × Reason). Refused f.0.0.0 f.0.0.1 f.0.1 f.1) (both_at (both_at tx_ballot_at dc_at) reason_at)
+refused_at = mapped_at (λ (((t, b), d), reason). Refused t b d reason) (both_at (both_at tx_ballot_at dc_at) reason_at)
 
 unfoldable pub ask_at : Reader Msg
 ask_at = mapped_at (λ (f : TxBallot). Ask f.0 f.1) tx_owned_at
 
 unfoldable pub promise_at : Reader Msg
-promise_at = mapped_at (λ (f : (TxBallot × ℕ) × Option (ℕ × Decision)). Promise f.0.0.0 f.0.0.1 f.0.1 f.1) (both_at (both_at tx_owned_at dc_at) report_at)
+promise_at = mapped_at (λ (((t, b), d), report). Promise t b d report) (both_at (both_at tx_owned_at dc_at) report_at)
 
 unfoldable pub decided_at : Reader Msg
 decided_at = mapped_at (λ (f : ℕ × Decision). Decided f.0 f.1) (both_at tx_at decision_at)
@@ -95,7 +95,7 @@ unfoldable pub catch_ask_at : Reader Msg
 catch_ask_at = mapped_at CatchAsk place_at
 
 unfoldable pub catch_page_at : Reader Msg
-catch_page_at = mapped_at (λ (f : (ℕ × ℕ) × List (ℕ × Decision)). CatchPage f.0.0 f.0.1 f.1) (both_at (both_at dc_at place_at) page_at)
+catch_page_at = mapped_at (λ ((d, place), page). CatchPage d place page) (both_at (both_at dc_at place_at) page_at)
 
 -- the kinds from 0 on
 abbrev pub kinds_at : List (Reader Msg)

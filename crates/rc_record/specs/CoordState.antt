@@ -33,7 +33,7 @@ outcomes_joined list (e ∷ es) = outcomes_joined (maybe (outcome_of list e.0) (
 
 -- what a record makes of the durable state; replay folds it over a log
 abbrev pub coord_applied : CoordDurable → Record → CoordDurable
-coord_applied s (Promised t b) = record { promises = promise_raised s.promises t b; accepted = s.accepted; outcomes = s.outcomes }
-coord_applied s (Accepted t b o) = record { promises = promise_raised s.promises t b; accepted = put nat_cmp s.accepted t (b, o); outcomes = s.outcomes }
-coord_applied s (Decided page) = record { promises = s.promises; accepted = s.accepted; outcomes = outcomes_joined s.outcomes page }
+coord_applied s (Promised t b) = record s { promises = promise_raised s.promises t b }
+coord_applied s (Accepted t b o) = record s { promises = promise_raised s.promises t b; accepted = put nat_cmp s.accepted t (b, o) }
+coord_applied s (Decided page) = record s { outcomes = outcomes_joined s.outcomes page }
 coord_applied s _ = s

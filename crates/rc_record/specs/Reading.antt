@@ -27,7 +27,7 @@ Lists = List ℕ × List (List ℕ)
 
 -- how many weights stand in a head
 abbrev pub weight_count : Front → ℕ
-weight_count f = if f.0.0 == 3 then f.1.0 else 0
+weight_count = λ ((format, node), (dcs, shards)). if format == 3 then dcs else 0
 
 unfoldable pub front_at : Reader Front
 front_at = both_at (both_at byte_at node_at) (both_at byte_at byte_at)
@@ -37,11 +37,9 @@ lists_at f = both_at (many_at byte_at (weight_count f)) (many_at key_at (f.1.1 -
 
 -- without weights each is 1
 abbrev pub head_from : Front × Lists → LogHead
-head_from h = record {
-  format = h.0.0.0;
-  node = h.0.0.1;
-  world = layout h.0.1.0 h.0.1.1 h.1.1 (if h.0.0.0 == 3 then h.1.0 else equal_weights h.0.1.0);
-}
+head_from =
+    λ (((format, node), (dcs, shards)), (weights, splits)).
+    record { format = format; node = node; world = layout dcs shards splits (if format == 3 then weights else equal_weights dcs) }
 
 abbrev pub is_head : LogHead → Bool
 is_head h = nat_le 1 h.format && nat_le h.format 3 && is_none (cluster_fault h.world)
@@ -63,7 +61,7 @@ unfoldable pub promised_at : Reader Record
 promised_at = mapped_at (λ (f : ℕ × ℕ). Promised f.0 f.1) (both_at tx_at ballot_at)
 
 unfoldable pub accepted_at : Reader Record
-accepted_at = mapped_at (λ (f : (ℕ × ℕ) × Decision). Accepted f.0.0 f.0.1 f.1) (both_at (both_at tx_at ballot_at) decision_at)
+accepted_at = mapped_at (λ ((t, b), o). Accepted t b o) (both_at (both_at tx_at ballot_at) decision_at)
 
 unfoldable pub head_record_at : Reader Record
 head_record_at = mapped_at Head head_at

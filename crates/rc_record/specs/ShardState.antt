@@ -19,7 +19,7 @@ new_durable = record { rows = []; parts = []; finished = [] }
 
 -- SETTLING
 abbrev pub settled : ShardDurable → ℕ → Decision → ShardDurable
-settled s t Abort = record { rows = s.rows; parts = without nat_cmp s.parts t; finished = put nat_cmp s.finished t Aborted }
+settled s t Abort = record s { parts = without nat_cmp s.parts t; finished = put nat_cmp s.finished t Aborted }
 settled s t (Commit part) = record { rows = set_rows s.rows part; parts = without nat_cmp s.parts t; finished = put nat_cmp s.finished t Committed }
 
 -- an entry of a page settles its transaction, if that is not finished yet
@@ -32,6 +32,6 @@ settled_all s (e ∷ es) = settled_all (settled_new s e) es
 
 -- what a record makes of the durable state, whose parts and outcomes are kept by number
 abbrev pub shard_applied : ShardDurable → Record → ShardDurable
-shard_applied s (Prepared t part) = record { rows = s.rows; parts = put nat_cmp s.parts t part; finished = s.finished }
+shard_applied s (Prepared t part) = record s { parts = put nat_cmp s.parts t part }
 shard_applied s (Finished page) = settled_all s page
 shard_applied s _ = s
