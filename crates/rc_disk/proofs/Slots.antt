@@ -89,37 +89,39 @@ nothing_selected : (folder : Bool) → IsSelected folder no_standing no_standing
 nothing_selected folder = record {
   is_here = refl;
   started = refl;
-  ready = record { on = tt };
+  ready = record { on = refl; told_on = tt };
   empty = λ none. record { nothing = tt; no_image = tt };
   counts = record { of_faults = omega arith; of_cuts = omega arith };
 }
+
+-- what the walk did to the slot of a node, where it has one
+pub at_node : {S : Type 0} (R : S → S → Type 0) (old new : List S) (count : ℕ) → length old ≡ 63 → count ≡ length old → Walked R old new count
+    → (n : NodeId) (P : Option S → Option S → Type 0) → P None None → ((x y : S) → R x y → P (Some x) (Some y)) → P (slot_at old n) (slot_at new n)
+at_node {S = S} R old new count long whole walked n P none some = by_test (is_node n) (place_inside n)
+  where
+    by_test : (b : Bool) → (b ≡ true → place n < 63) → P (if b then slice_get old (place n) else None) (if b then slice_get new (place n) else None)
+    by_test false inside = none
+    by_test true inside = by_cases (slice_get_cases old (place n)).1
+      where
+        by_cases : ((x : S) × (place n < length old) × (slice_get old (place n) ≡ Some x) × (get_or old (place n) x ≡ x)) ⊎ ((length old ≤ place n) × (slice_get old (place n) ≡ None))
+            → P (slice_get old (place n)) (slice_get new (place n))
+        by_cases (inr (past, nothing)) = let no : ⊥ = omega (arith, past, long, inside refl) in absurd no
+        by_cases (inl (x, within, is, at)) =
+            let below : place n < count = omega (arith, within, whole) in
+            let long_new : place n < length new = omega (arith, within, walked.same_length) in
+            let y = get_or new (place n) x in
+            let step : R x y = subst (λ (z : S). R z y) at (walked.done (place n) x below within) in
+            subst (λ (o : Option S). P o (slice_get new (place n))) (sym is) (subst (λ (o : Option S). P (Some x) o) (sym (slice_get-get_or new (place n) x long_new)) (some x y step))
 
 -- each node's slot was selected
 pub selected : {S : Type 0} (st : S → Standing) (start : S → Start) (lent : S → Bool) (folder : Bool) (old new : List S) (count : ℕ) → length old ≡ 63
     → count ≡ length old → Walked (λ x y. lent x ≡ false → IsSelected folder (st x) (st y) (start y) (lent y)) old new count
     → (n : NodeId) → lent_in lent old n ≡ false
     → IsSelected folder (stands_in st old n) (stands_in st new n) (start_in start new n) (lent_in lent new n)
-selected {S = S} st start lent folder old new count long whole walked n here = by_test (is_node n) (place_inside n) here
-  where
-    by_test : (b : Bool) → (b ≡ true → place n < 63) → on_slot false lent (if b then slice_get old (place n) else None) ≡ false
-        → IsSelected folder (on_slot no_standing st (if b then slice_get old (place n) else None)) (on_slot no_standing st (if b then slice_get new (place n) else None))
-        (on_slot (start_of no_standing) start (if b then slice_get new (place n) else None)) (on_slot false lent (if b then slice_get new (place n) else None))
-    by_test false inside not_lent = nothing_selected folder
-    by_test true inside not_lent = by_cases (slice_get_cases old (place n)).1
-      where
-        by_cases : ((x : S) × (place n < length old) × (slice_get old (place n) ≡ Some x) × (get_or old (place n) x ≡ x)) ⊎ ((length old ≤ place n) × (slice_get old (place n) ≡ None))
-            → IsSelected folder (on_slot no_standing st (slice_get old (place n))) (on_slot no_standing st (slice_get new (place n)))
-            (on_slot (start_of no_standing) start (slice_get new (place n))) (on_slot false lent (slice_get new (place n)))
-        by_cases (inr (past, none)) = let no : ⊥ = omega (arith, past, long, inside refl) in absurd no
-        by_cases (inl (x, within, is, at)) =
-            let below : place n < count = omega (arith, within, whole) in
-            let long_new : place n < length new = omega (arith, within, walked.same_length) in
-            let y = get_or new (place n) x in
-            let free : lent x ≡ false = sym (ap (on_slot false lent) is) ∙ not_lent in
-            let step : IsSelected folder (st x) (st y) (start y) (lent y) =
-            subst (λ (z : S). lent z ≡ false → IsSelected folder (st z) (st y) (start y) (lent y)) at (walked.done (place n) x below within) free in
-            subst (λ (o : Option S). IsSelected folder (on_slot no_standing st o) (on_slot no_standing st (slice_get new (place n))) (on_slot (start_of no_standing) start (slice_get new (place n))) (on_slot false lent (slice_get new (place n)))) (sym is)
-            (subst (λ (o : Option S). IsSelected folder (st x) (on_slot no_standing st o) (on_slot (start_of no_standing) start o) (on_slot false lent o)) (sym (slice_get-get_or new (place n) x long_new)) step)
+selected st start lent folder old new count long whole walked n here =
+    at_node (λ x y. lent x ≡ false → IsSelected folder (st x) (st y) (start y) (lent y)) old new count long whole walked n
+    (λ o o'. on_slot false lent o ≡ false → IsSelected folder (on_slot no_standing st o) (on_slot no_standing st o') (on_slot (start_of no_standing) start o') (on_slot false lent o'))
+    (λ none. nothing_selected folder) (λ x y step. step) here
 
 -- what is told of the slots, where one of them was changed
 pub told_there : {S A : Type 0} (f : S → A) (nothing : A) (items new : List S) (n : NodeId) (y : S) → new ≡ set items (place n) y

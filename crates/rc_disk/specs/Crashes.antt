@@ -1,4 +1,7 @@
 -- What a crash may leave of a disk's content, now and at each moment since.
+-- A call keeps this in one direction: whatever may be left after it comes by its step from what might have been left
+-- before it. That all such bytes may be left is not said, since it holds of no disk here: one in memory leaves one of
+-- its four images, and of a file nobody knows. What holds of all bytes that may come so holds of those that do.
 use Rattle.std.specs.Prelude.{ℕ, ◌≡◌, ◌⊎◌, ◌+◌, ◌-◌, ◌≤◌, min, List, ◌++◌, length, take, drop, Option, Some}
 
 -- In a write of so many bytes at a place some bytes came between the front and the back, which stay. There are

@@ -3,7 +3,8 @@ use Rattle.std.specs.Prelude.{ℕ, ◌≡◌, ◌≤◌, List, length, Option, N
 use Rattle.std.proofs.Common.{inl, inr}
 use Rattle.rc_disk.specs.Calls.{Told, seen}
 use Rattle.rc_disk.specs.Memory.{images_of, history_of}
-use Rattle.rc_disk.specs.MemDisks.{told_of, content_of, faults_of, cuts_of}
+use Rattle.rc_disk.specs.MemDisks.{told_of, content_of, power_of, faults_of, cuts_of}
+use Rattle.rc_disk.specs.declared.power.Power.{Power}
 use Rattle.rc_disk.specs.Past.{IsOne, LeftSince, one_now, one_only}
 use Rattle.rc_disk.specs.declared.host_disk.HostDisk.{HostDisk}
 use Rattle.rc_disk.specs.declared.host_disk.HostDisk.TheVariants.{Memory, File}
@@ -28,13 +29,17 @@ abbrev pub left_since_host : HostDisk → ℕ → List ℕ → Type 0
 left_since_host (Memory d) t left = LeftSince (history_of d.past) t left
 left_since_host (File f) t left = ⊥
 
+abbrev pub power_host : HostDisk → Power
+power_host (Memory d) = power_of d
+power_host (File f) = f.state.power
+
 abbrev pub faults_host : HostDisk → ℕ
 faults_host (Memory d) = faults_of d
-faults_host (File f) = f.faults
+faults_host (File f) = f.state.faults
 
 abbrev pub cuts_host : HostDisk → ℕ
 cuts_host (Memory d) = cuts_of d
-cuts_host (File f) = f.cuts
+cuts_host (File f) = f.state.cuts
 
 abbrev pub spare_calls_host : HostDisk → ℕ
 spare_calls_host (Memory d) = d.calls.spare
@@ -51,6 +56,10 @@ length_host (File f) = f.len
 pub told_content_host : (d : HostDisk) → IfSome (told_host d) (λ t. content_host d ≡ Some (seen t))
 told_content_host (Memory d) = refl
 told_content_host (File f) = tt
+
+pub told_power_host : (d : HostDisk) → IfSome (told_host d) (λ t. t.power ≡ power_host d)
+told_power_host (Memory d) = refl
+told_power_host (File f) = tt
 
 pub may_stay_host : (d : HostDisk) → IfSome (content_host d) (may_leave_host d)
 may_stay_host (Memory d) = inr (inl refl)

@@ -7,6 +7,7 @@ use Rattle.rc_disk.specs.Places.{Standing, Start, Tally, standing}
 use Rattle.rc_disk.specs.declared.marks.Marks.{Marks}
 use Rattle.rc_disk.specs.declared.marks.Tallied.{Tallied}
 use Rattle.rc_disk.specs.Calls.{Told, settled}
+use Rattle.rc_disk.specs.declared.power.Power.{Power}
 use Rattle.rc_disk.specs.declared.power.Power.TheVariants.{On}
 use Rattle.rc_disk.specs.Memory.{images_of, numbers_of, reads_of, history_of, verdict, is_read}
 use Rattle.rc_disk.specs.declared.mem_disk.MemDisk.{MemDisk}
@@ -16,6 +17,9 @@ told_of d = record { numbers = numbers_of d.calls; reads = reads_of d.reads; pow
 
 abbrev pub content_of : MemDisk → List ℕ
 content_of d = d.images.plain.items
+
+abbrev pub power_of : MemDisk → Power
+power_of d = d.calls.power
 
 abbrev pub faults_of : MemDisk → ℕ
 faults_of d = d.calls.faults
@@ -40,7 +44,7 @@ told_first bytes = record {
 }
 
 abbrev pub standing_of : MemDisk → Standing
-standing_of d = standing (Some (told_of d)) (Some (content_of d)) (faults_of d) (cuts_of d)
+standing_of d = standing (Some (told_of d)) (Some (content_of d)) (power_of d) (faults_of d) (cuts_of d)
 
 abbrev pub tally_of : Tallied → Tally
 tally_of t = record { calls = t.calls; failed = t.failed; reads = t.reads; failed_reads = t.failed_reads; off_reads = t.off_reads }

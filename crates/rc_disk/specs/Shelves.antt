@@ -2,6 +2,7 @@
 use Rattle.std.specs.Prelude.{ℕ, ◌≡◌, ◌+◌, ◌-◌, ◌*◌, ◌&&◌, nat_le, Bool, true, false, if◌then◌else◌, List, Option, None, Some, slice_get, length, slice_index_or, ◌<◌, ◌≤◌}
 use Rattle.rc_ids.specs.declared.names.NodeId.{NodeId}
 use Rattle.rc_ids.specs.declared.names.NodeId.TheVariants.{Coord, Shard}
+use Rattle.rc_disk.specs.declared.power.Power.TheVariants.{On}
 use Rattle.rc_disk.specs.Places.{Standing, Start, start_of, standing, IsReady, IsFresh, HasLaterCounts}
 
 -- whether it names a node of seven datacentres of eight shards
@@ -23,7 +24,7 @@ on_slot nothing f None = nothing
 on_slot nothing f (Some s) = f s
 
 abbrev pub no_standing : Standing
-no_standing = standing None None 0 0
+no_standing = standing None None On 0 0
 
 abbrev pub stands_in : {S : Type 0} → (S → Standing) → List S → NodeId → Standing
 stands_in f slots n = on_slot no_standing f (slot_at slots n)

@@ -2,15 +2,17 @@
 ghost use Rattle.std.specs.Prelude.{◌≡◌, ◌+◌, ◌≤◌, max, List, ℕ, length, take, drop, Option, Some, OnOk, IfSome, IsTrue, is_ok, is_some};
 ghost use Rattle.std.specs.Option.{option_map};
 ghost use Rattle.rc_ports.specs.Causes.{HasCause};
-ghost use Rattle.rc_disk.specs.Calls.{Told, Writes, Shortens, Syncs, effect, seen, after, after_read, armed, powered, holds, is_on, cause_at};
+ghost use Rattle.rc_disk.specs.Calls.{Told, Writes, Shortens, Syncs, effect, seen, after, after_read, armed, powered, power_after, holds, is_on, cause_at};
 ghost use Rattle.rc_disk.specs.Counts.{HasCuts, AreCounted, read_cause};
+ghost use Rattle.rc_disk.specs.declared.power.Power.{Power as PowerState};
+ghost use Rattle.rc_disk.specs.declared.power.Power.TheVariants.{On, Armed};
 ghost use Rattle.rc_disk.specs.Crashes.{Patches, Trims, Stems, AddsNone, IsDurable, TakesTime};
 
 use rc_ids::NoMemory;
 use rc_ports::Failed;
 
-/// A disk. A call that fails raises the count of faults, and for want of power the count of cuts too; these never
-/// fall, and stand at their last value.
+/// A disk. A call that fails raises the count of faults, and that of cuts too exactly where its power was off or the
+/// armed cut fell at that call. Counts never fall, and stand at their last value.
 pub trait Disk: Drop {
     // What a read gives, where it is told. Whether it is told never changes.
     ghost content: { Self → Option (List ℕ) };
@@ -26,6 +28,9 @@ pub trait Disk: Drop {
 
     // All its calls, where they are told.
     ghost told: { Self → Option Told };
+
+    // Whether it has its power, and where a cut of it is armed. Of every disk, whatever it tells.
+    ghost power: { Self → PowerState };
 
     ghost faults: { Self → ℕ };
 
@@ -50,14 +55,15 @@ pub trait Disk: Drop {
         ensures content { content self.new ≡ content self.old }
         ensures length { length_of self.new ≡ length_of self.old }
         ensures told { told self.new ≡ option_map (after_read (is_ok result)) (told self.old) }
-        ensures power { OnOk result (IfSome (told self.old) (λ t. IsTrue (is_on t.power))) }
+        ensures power { power self.new ≡ power self.old }
+        ensures on { OnOk result (IsTrue (is_on (power self.old))) }
         ensures crash { AddsNone (may_leave self.old) (may_leave self.new) }
         ensures time { TakesTime (moment self.old) (moment self.new) (left_since self.old) (left_since self.new) (may_leave self.new) }
         ensures spare_calls { spare_calls self.new ≡ spare_calls self.old }
         ensures spare_bytes { spare_bytes self.new ≡ spare_bytes self.old }
         ensures cause { HasCause (faults self.old) (faults self.new) result }
         ensures cuts { HasCuts (cuts self.old) (cuts self.new) result }
-        ensures counts { IfSome (told self.old) (λ t. AreCounted (read_cause t.power) (is_ok result) (faults self.old) (faults self.new) (cuts self.old) (cuts self.new)) };
+        ensures counts { AreCounted (read_cause (power self.old)) (is_ok result) (faults self.old) (faults self.new) (cuts self.old) (cuts self.new) };
 
     /// Writes over what is there, and past the end.
     fn write_at(&mut self, place: u64, bytes: &[u8]) -> Result<(), Failed>
@@ -68,14 +74,15 @@ pub trait Disk: Drop {
         ensures length { OnOk result (length_of self.new ≡ max (length_of self.old) (place + length bytes.now)) }
         ensures tells { is_some (content self.new) ≡ is_some (content self.old) }
         ensures told { told self.new ≡ option_map (after (Writes place bytes.now) (is_ok result)) (told self.old) }
-        ensures power { OnOk result (IfSome (told self.old) (λ t. IsTrue (holds t.power))) }
+        ensures power { power self.new ≡ power_after (power self.old) }
+        ensures on { OnOk result (IsTrue (holds (power self.old))) }
         ensures crash { Stems (Patches place (length bytes.now)) (may_leave self.old) (may_leave self.new) }
         ensures time { TakesTime (moment self.old) (moment self.new) (left_since self.old) (left_since self.new) (may_leave self.new) }
         ensures spare_calls { spare_calls self.new + 1 ≡ spare_calls self.old }
         ensures spare_bytes { spare_bytes self.new + length bytes.now ≡ spare_bytes self.old }
         ensures cause { HasCause (faults self.old) (faults self.new) result }
         ensures cuts { HasCuts (cuts self.old) (cuts self.new) result }
-        ensures counts { IfSome (told self.old) (λ t. AreCounted (cause_at t.power) (is_ok result) (faults self.old) (faults self.new) (cuts self.old) (cuts self.new)) };
+        ensures counts { AreCounted (cause_at (power self.old)) (is_ok result) (faults self.old) (faults self.new) (cuts self.old) (cuts self.new) };
 
     /// Cuts the content to a length.
     fn cut(&mut self, len: u64) -> Result<(), Failed>
@@ -85,14 +92,15 @@ pub trait Disk: Drop {
         ensures length { OnOk result (length_of self.new ≡ len) }
         ensures tells { is_some (content self.new) ≡ is_some (content self.old) }
         ensures told { told self.new ≡ option_map (after (Shortens len) (is_ok result)) (told self.old) }
-        ensures power { OnOk result (IfSome (told self.old) (λ t. IsTrue (holds t.power))) }
+        ensures power { power self.new ≡ power_after (power self.old) }
+        ensures on { OnOk result (IsTrue (holds (power self.old))) }
         ensures crash { Stems (Trims len) (may_leave self.old) (may_leave self.new) }
         ensures time { TakesTime (moment self.old) (moment self.new) (left_since self.old) (left_since self.new) (may_leave self.new) }
         ensures spare_calls { spare_calls self.new + 1 ≡ spare_calls self.old }
         ensures spare_bytes { spare_bytes self.new ≡ spare_bytes self.old }
         ensures cause { HasCause (faults self.old) (faults self.new) result }
         ensures cuts { HasCuts (cuts self.old) (cuts self.new) result }
-        ensures counts { IfSome (told self.old) (λ t. AreCounted (cause_at t.power) (is_ok result) (faults self.old) (faults self.new) (cuts self.old) (cuts self.new)) };
+        ensures counts { AreCounted (cause_at (power self.old)) (is_ok result) (faults self.old) (faults self.new) (cuts self.old) (cuts self.new) };
 
     /// After it a crash leaves what a read gives.
     fn sync(&mut self) -> Result<(), Failed>
@@ -102,14 +110,15 @@ pub trait Disk: Drop {
         ensures length { OnOk result (length_of self.new ≡ length_of self.old) }
         ensures tells { is_some (content self.new) ≡ is_some (content self.old) }
         ensures told { told self.new ≡ option_map (after Syncs (is_ok result)) (told self.old) }
-        ensures power { OnOk result (IfSome (told self.old) (λ t. IsTrue (holds t.power))) }
+        ensures power { power self.new ≡ power_after (power self.old) }
+        ensures on { OnOk result (IsTrue (holds (power self.old))) }
         ensures crash { AddsNone (may_leave self.old) (may_leave self.new) }
         ensures time { TakesTime (moment self.old) (moment self.new) (left_since self.old) (left_since self.new) (may_leave self.new) }
         ensures spare_calls { spare_calls self.new + 1 ≡ spare_calls self.old }
         ensures spare_bytes { spare_bytes self.new ≡ spare_bytes self.old }
         ensures cause { HasCause (faults self.old) (faults self.new) result }
         ensures cuts { HasCuts (cuts self.old) (cuts self.new) result }
-        ensures counts { IfSome (told self.old) (λ t. AreCounted (cause_at t.power) (is_ok result) (faults self.old) (faults self.new) (cuts self.old) (cuts self.new)) };
+        ensures counts { AreCounted (cause_at (power self.old)) (is_ok result) (faults self.old) (faults self.new) (cuts self.old) (cuts self.new) };
 
     /// Makes room for so many calls of `write_at`, `cut` and `sync`, which write at most so many bytes. No device call.
     fn room(&mut self, bytes: u64, calls: u32) -> Result<(), NoMemory>
@@ -118,6 +127,7 @@ pub trait Disk: Drop {
         ensures content { content self.new ≡ content self.old }
         ensures length { length_of self.new ≡ length_of self.old }
         ensures told { told self.new ≡ told self.old }
+        ensures power { power self.new ≡ power self.old }
         ensures crash { AddsNone (may_leave self.old) (may_leave self.new) }
         ensures time { TakesTime (moment self.old) (moment self.new) (left_since self.old) (left_since self.new) (may_leave self.new) }
         ensures faults { faults self.new ≡ faults self.old }
@@ -130,6 +140,7 @@ pub trait Disk: Drop {
         ensures content { content self.new ≡ content self.old }
         ensures length { length_of self.new ≡ length_of self.old }
         ensures told { told self.new ≡ option_map (armed k pick) (told self.old) }
+        ensures power { power self.new ≡ Armed k pick }
         ensures crash { AddsNone (may_leave self.old) (may_leave self.new) }
         ensures time { TakesTime (moment self.old) (moment self.new) (left_since self.old) (left_since self.new) (may_leave self.new) }
         ensures spare_calls { spare_calls self.new ≡ spare_calls self.old }
@@ -142,6 +153,7 @@ pub trait Disk: Drop {
         ensures content { IfSome (content self.new) (may_leave self.old) }
         ensures tells { is_some (content self.new) ≡ is_some (content self.old) }
         ensures told { told self.new ≡ option_map powered (told self.old) }
+        ensures power { power self.new ≡ On }
         ensures crash { AddsNone (may_leave self.old) (may_leave self.new) }
         ensures time { TakesTime (moment self.old) (moment self.new) (left_since self.old) (left_since self.new) (may_leave self.new) }
         ensures spare_calls { spare_calls self.new ≡ spare_calls self.old }
@@ -151,6 +163,9 @@ pub trait Disk: Drop {
 
     // A disk that tells its calls tells its content.
     ghost told_content: { (d : Self) → IfSome (told d) (λ t. content d ≡ Some (seen t)) };
+
+    // What it tells of its power is so.
+    ghost told_power: { (d : Self) → IfSome (told d) (λ t. t.power ≡ power d) };
 
     // A crash may leave what a read gives.
     ghost may_stay: { (d : Self) → IfSome (content d) (may_leave d) };

@@ -52,7 +52,7 @@ pub trait Farm {
     /// Lends out a node's disk.
     fn disk(&mut self, node: NodeId) -> Result<Self::D, DeviceRefusal>
         requires { is_lent self.old node ≡ false }
-        ensures disk { IfOk result (λ d. stands self.old node ≡ standing (Self.D.told d) (Self.D.content d) (Self.D.faults d) (Self.D.cuts d)) }
+        ensures disk { IfOk result (λ d. stands self.old node ≡ standing (Self.D.told d) (Self.D.content d) (Self.D.power d) (Self.D.faults d) (Self.D.cuts d)) }
         ensures lent { OnOk result (is_lent self.new node ≡ true) }
         ensures not_lent { OnErr result (is_lent self.new node ≡ false) }
         ensures same { OnErr result (stands self.new node ≡ stands self.old node) }
@@ -66,7 +66,7 @@ pub trait Farm {
     /// Puts a node's disk back.
     fn back(&mut self, node: NodeId, disk: Self::D)
         requires { is_lent self.old node ≡ true }
-        ensures disk { stands self.new node ≡ standing (Self.D.told disk) (Self.D.content disk) (Self.D.faults disk) (Self.D.cuts disk) }
+        ensures disk { stands self.new node ≡ standing (Self.D.told disk) (Self.D.content disk) (Self.D.power disk) (Self.D.faults disk) (Self.D.cuts disk) }
         ensures lent { is_lent self.new node ≡ false }
         ensures others_lent { (n : NodeName) → n ≢ node → is_lent self.new n ≡ is_lent self.old n }
         ensures others { (n : NodeName) → n ≢ node → stands self.new n ≡ stands self.old n }

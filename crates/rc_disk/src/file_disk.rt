@@ -1,6 +1,8 @@
 // A disk that is a file.
-ghost use Rattle.std.specs.Prelude.{◌≡◌, ◌+◌, ◌≤◌, IfOk, None, true, false};
-ghost use Rattle.rc_ports.specs.Causes.{Rose};
+ghost use Rattle.std.specs.Prelude.{◌≡◌, ◌+◌, ◌≤◌, IfOk, None, true, false, if◌then◌else◌};
+ghost use Rattle.rc_ports.specs.Causes.{raised};
+ghost use Rattle.rc_disk.specs.Calls.{power_after, holds, cause_at};
+ghost use Rattle.rc_disk.specs.Counts.{is_cut};
 
 use crate::{Disk, Power};
 use rc_ids::NoMemory;
@@ -9,31 +11,35 @@ use std::fs::File;
 use std::io;
 use std::os::unix::fs::FileExt;
 
+/// What is kept of a file's disk while it is not lent: its power and its counts.
+#[derive(Clone, Copy, Debug, PartialEq, Eq)]
+pub struct FileState {
+    pub power: Power,
+    pub faults: u64,
+    pub cuts: u64,
+}
+
 /// A disk that is a file of the system's. It tells nothing of its content, and counts its errors. At a cut of the
 /// power the call fails and is not made.
 #[derive(Drop)]
 pub struct FileDisk {
     pub file: File,
     pub len: u64,
-    pub power: Power,
-    pub faults: u64,
-    pub cuts: u64,
+    pub state: FileState,
     pub spare_calls: u64,
     pub spare_bytes: u64,
 }
 
 impl FileDisk {
-    /// A disk that is this file, with the counts that it has so far.
-    pub fn new(file: File, faults: u64, cuts: u64) -> io::Result<FileDisk>
-        ensures { IfOk result (λ d. (d.faults ≡ faults) × (d.cuts ≡ cuts)) }
+    /// A disk that is this file, with the power and the counts that it has so far.
+    pub fn new(file: File, state: FileState) -> io::Result<FileDisk>
+        ensures { IfOk result (λ d. d.state ≡ state) }
     {
         let len = file.metadata()?.len();
         Ok(FileDisk {
             file,
             len,
-            power: Power::On,
-            faults,
-            cuts,
+            state,
             spare_calls: 0,
             spare_bytes: 0,
         })
@@ -41,40 +47,46 @@ impl FileDisk {
 
     /// Counts a fault, for want of power or not.
     fn fail(&mut self, for_power: bool)
-        ensures rose { Rose self.old.faults self.new.faults }
-        ensures later { self.old.faults ≤ self.new.faults }
-        ensures cuts { self.old.cuts ≤ self.new.cuts }
+        ensures faults { self.new.state.faults ≡ raised self.old.state.faults }
+        ensures cuts { self.new.state.cuts ≡ (if for_power then raised self.old.state.cuts else self.old.state.cuts) }
+        ensures power { self.new.state.power ≡ self.old.state.power }
+        ensures later { self.old.state.faults ≤ self.new.state.faults }
+        ensures later_cuts { self.old.state.cuts ≤ self.new.state.cuts }
         ensures len { self.new.len ≡ self.old.len }
         ensures calls { self.new.spare_calls ≡ self.old.spare_calls }
         ensures bytes { self.new.spare_bytes ≡ self.old.spare_bytes }
     {
-        self.faults = self.faults.saturating_add(1);
+        self.state.faults = self.state.faults.saturating_add(1);
         if for_power {
-            self.cuts = self.cuts.saturating_add(1);
+            self.state.cuts = self.state.cuts.saturating_add(1);
         }
     }
 
     /// Counts a call, and says whether it is to be made.
     fn begin(&mut self) -> bool
         requires { 1 ≤ self.old.spare_calls }
-        ensures made { result ≡ true → (self.new.faults ≡ self.old.faults) × (self.new.cuts ≡ self.old.cuts) }
-        ensures rose { result ≡ false → Rose self.old.faults self.new.faults }
-        ensures later { self.old.faults ≤ self.new.faults }
-        ensures cuts { self.old.cuts ≤ self.new.cuts }
+        ensures made { result ≡ holds self.old.state.power }
+        ensures power { self.new.state.power ≡ power_after self.old.state.power }
+        ensures cause { result ≡ true → is_cut (cause_at self.old.state.power) ≡ false }
+        ensures refused { result ≡ false → is_cut (cause_at self.old.state.power) ≡ true }
+        ensures faults { self.new.state.faults ≡ (if result then self.old.state.faults else raised self.old.state.faults) }
+        ensures cuts { self.new.state.cuts ≡ (if result then self.old.state.cuts else raised self.old.state.cuts) }
+        ensures later { self.old.state.faults ≤ self.new.state.faults }
+        ensures later_cuts { self.old.state.cuts ≤ self.new.state.cuts }
         ensures len { self.new.len ≡ self.old.len }
         ensures calls { self.new.spare_calls + 1 ≡ self.old.spare_calls }
         ensures bytes { self.new.spare_bytes ≡ self.old.spare_bytes }
     {
         self.spare_calls -= 1;
-        match self.power {
+        match self.state.power {
             Power::On => true,
             Power::Armed(1, _) => {
-                self.power = Power::Off;
+                self.state.power = Power::Off;
                 self.fail(true);
                 false
             }
             Power::Armed(k, pick) => {
-                self.power = Power::Armed(k.saturating_sub(1), pick);
+                self.state.power = Power::Armed(k.saturating_sub(1), pick);
                 true
             }
             Power::Off => {
@@ -86,9 +98,10 @@ impl FileDisk {
 
     /// Counts a fault of the file, which may have another length now.
     fn file_failed(&mut self)
-        ensures rose { Rose self.old.faults self.new.faults }
-        ensures later { self.old.faults ≤ self.new.faults }
-        ensures cuts { self.old.cuts ≤ self.new.cuts }
+        ensures faults { self.new.state.faults ≡ raised self.old.state.faults }
+        ensures cuts { self.new.state.cuts ≡ self.old.state.cuts }
+        ensures power { self.new.state.power ≡ self.old.state.power }
+        ensures later { self.old.state.faults ≤ self.new.state.faults }
         ensures calls { self.new.spare_calls ≡ self.old.spare_calls }
         ensures bytes { self.new.spare_bytes ≡ self.old.spare_bytes }
     {
@@ -112,9 +125,11 @@ impl Disk for FileDisk {
 
     ghost told = { λ _. None };
 
-    ghost faults = { λ d. d.faults };
+    ghost power = { λ d. d.state.power };
 
-    ghost cuts = { λ d. d.cuts };
+    ghost faults = { λ d. d.state.faults };
+
+    ghost cuts = { λ d. d.state.cuts };
 
     ghost spare_calls = { λ d. d.spare_calls };
 
@@ -123,6 +138,8 @@ impl Disk for FileDisk {
     ghost length_of = { λ d. d.len };
 
     ghost told_content = { λ d. tt };
+
+    ghost told_power = { λ d. tt };
 
     ghost may_stay = { λ d. tt };
 
@@ -137,7 +154,7 @@ impl Disk for FileDisk {
     }
 
     fn read(&mut self, place: u64, buf: &mut [u8]) -> Result<(), Failed> {
-        if self.power == Power::Off {
+        if self.state.power == Power::Off {
             self.fail(true);
             return Err(Failed);
         }
@@ -207,10 +224,10 @@ impl Disk for FileDisk {
     }
 
     fn power_cut(&mut self, k: u64, pick: u8) {
-        self.power = Power::Armed(k, pick);
+        self.state.power = Power::Armed(k, pick);
     }
 
     fn power_on(&mut self) {
-        self.power = Power::On;
+        self.state.power = Power::On;
     }
 }

@@ -14,8 +14,8 @@ pub enum HostDisk {
 }
 
 impl Disk for HostDisk {
-    ghost use Rattle.rc_disk.specs.HostDisks.{told_host, content_host, may_leave_host, moment_host, left_since_host, faults_host, cuts_host, spare_calls_host, spare_bytes_host, length_host};
-    ghost use Rattle.rc_disk.specs.HostDisks.{told_content_host, may_stay_host, has_length_host, now_too_host, no_other_host};
+    ghost use Rattle.rc_disk.specs.HostDisks.{told_host, content_host, may_leave_host, moment_host, left_since_host, power_host, faults_host, cuts_host, spare_calls_host, spare_bytes_host, length_host};
+    ghost use Rattle.rc_disk.specs.HostDisks.{told_content_host, told_power_host, may_stay_host, has_length_host, now_too_host, no_other_host};
 
     ghost content = { λ d. content_host d };
 
@@ -26,6 +26,8 @@ impl Disk for HostDisk {
     ghost left_since = { λ d t left. left_since_host d t left };
 
     ghost told = { λ d. told_host d };
+
+    ghost power = { λ d. power_host d };
 
     ghost faults = { λ d. faults_host d };
 
@@ -38,6 +40,8 @@ impl Disk for HostDisk {
     ghost length_of = { λ d. length_host d };
 
     ghost told_content = { λ d. told_content_host d };
+
+    ghost told_power = { λ d. told_power_host d };
 
     ghost may_stay = { λ d. may_stay_host d };
 

@@ -6,8 +6,8 @@ ghost use Rattle.rc_disk.specs.Places.{start_of};
 ghost use Rattle.rc_disk.specs.Shelves.{stands_in, start_in, lent_in};
 ghost use Rattle.rc_disk.specs.HostFarms.{slot_standing, slot_start, slot_is_lent};
 
-use crate::file_disk::FileDisk;
-use crate::host_slot::{HostPlace, HostSlot, counts, empty_slots, lend, place_for, put};
+use crate::file_disk::{FileDisk, FileState};
+use crate::host_slot::{HostPlace, HostSlot, empty_slots, file_state, lend, place_for, put};
 use crate::shelf::{place_of, select_all};
 use crate::{DeviceRefusal, Farm, HostDisk};
 use rc_ids::{NoMemory, NodeId};
@@ -95,9 +95,9 @@ impl<'a, R: Files<File = File>> HostFarm<'a, R> {
         Ok(path)
     }
 
-    /// The file of a node, with the counts that it has so far.
-    fn open(&mut self, node: &NodeId, faults: u64, cuts: u64) -> Result<FileDisk, DeviceRefusal>
-        ensures counts { IfOk result (λ d. (d.faults ≡ faults) × (d.cuts ≡ cuts)) }
+    /// The file of a node, with the power and the counts that it has so far.
+    fn open(&mut self, node: &NodeId, state: FileState) -> Result<FileDisk, DeviceRefusal>
+        ensures state { IfOk result (λ d. d.state ≡ state) }
         ensures slots { self.new.slots ≡ self.old.slots }
         ensures later { self.old.faults ≤ self.new.faults }
         ensures cause { IsErrOf result DeviceRefusal.Failed → Rose self.old.faults self.new.faults }
@@ -109,7 +109,7 @@ impl<'a, R: Files<File = File>> HostFarm<'a, R> {
         let Ok(file) = open_log(self.rt, self.dir.as_str(), path.as_str()) else {
             return Err(self.fail());
         };
-        match FileDisk::new(file, faults, cuts) {
+        match FileDisk::new(file, state) {
             Ok(disk) => Ok(disk),
             Err(_) => Err(self.fail()),
         }
@@ -171,13 +171,13 @@ impl<'a, R: Files<File = File>> Farm for HostFarm<'a, R> {
         ensures sure { IsSome (stands_in slot_standing self.old.slots.items node).told → IsOk result }
     {
         let place = place_of(&node);
-        let Some((faults, cuts)) = counts(&self.slots, place) else {
+        let Some(state) = file_state(&self.slots, place) else {
             return match lend(&mut self.slots, place) {
                 HostPlace::Memory(disk) => Ok(HostDisk::Memory(disk)),
                 _ => unreachable!(),
             };
         };
-        let disk = self.open(&node, faults, cuts)?;
+        let disk = self.open(&node, state)?;
         put(&mut self.slots, place, HostPlace::Lent);
         Ok(HostDisk::File(disk))
     }

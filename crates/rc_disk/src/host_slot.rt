@@ -3,18 +3,19 @@ ghost use Rattle.std.specs.Prelude.{◌≡◌, ◌≤◌, ◌<◌, ℕ, All, len
 ghost use Rattle.rc_disk.specs.HostFarms.{slot_standing, slot_start, slot_is_lent, place_standing, place_is_lent, is_counted, standing_host};
 ghost use Rattle.rc_disk.specs.declared.host_slot.HostSlot.{HostSlot as HostSlotOf};
 
+use crate::file_disk::FileState;
 use crate::marks::Marks;
 use crate::shelf::Slot;
-use crate::{HostDisk, MemDisk};
+use crate::{HostDisk, MemDisk, Power};
 use rc_ids::NoMemory;
 use std::alloc::Global;
 use std::mem;
 
-/// What a farm has of a node: a disk in memory, the counts of its file, or nothing while it is lent.
+/// What a farm has of a node: a disk in memory, what is kept of its file, or nothing while it is lent.
 #[derive(Drop)]
 pub enum HostPlace {
     Memory(MemDisk),
-    Counted(u64, u64),
+    Counted(FileState),
     Lent,
 }
 
@@ -26,11 +27,15 @@ pub struct HostSlot {
 }
 
 impl Slot for HostSlot {
+    ghost use Rattle.rc_disk.specs.Shelves.{IsSelected};
+
     ghost stands = { λ s. slot_standing s };
 
     ghost start = { λ s. slot_start s };
 
     ghost is_lent = { λ s. slot_is_lent s };
+
+    ghost selects = { λ folder old new. IsSelected folder (slot_standing old) (slot_standing new) (slot_start new) (slot_is_lent new) };
 
     fn select(&mut self, alloc: Global, folder: bool) {
         let (faults, cuts) = match &self.here {
@@ -38,7 +43,7 @@ impl Slot for HostSlot {
                 let marks = disk.marks();
                 (marks.faults, marks.cuts)
             }
-            HostPlace::Counted(faults, cuts) => (*faults, *cuts),
+            HostPlace::Counted(state) => (state.faults, state.cuts),
             HostPlace::Lent => return,
         };
         if folder {
@@ -47,7 +52,11 @@ impl Slot for HostSlot {
                 faults,
                 cuts,
             };
-            self.here = HostPlace::Counted(faults, cuts);
+            self.here = HostPlace::Counted(FileState {
+                power: Power::On,
+                faults,
+                cuts,
+            });
         } else {
             let mut disk = MemDisk::new(alloc);
             disk.renew(faults, cuts);
@@ -79,7 +88,7 @@ pub fn lend(slots: &mut Vec<HostSlot>, place: usize) -> HostPlace
     mem::replace(&mut slots[place].here, HostPlace::Lent)
 }
 
-/// Puts a disk, or the counts of a file, into a slot.
+/// Puts a disk, or what is kept of a file, into a slot.
 pub fn put(slots: &mut Vec<HostSlot>, place: usize, here: HostPlace)
     requires { place < length slots.old.items }
     ensures length { length slots.new.items ≡ length slots.old.items }
@@ -88,14 +97,14 @@ pub fn put(slots: &mut Vec<HostSlot>, place: usize, here: HostPlace)
     slots[place].here = here;
 }
 
-/// The counts of a node's file, where the folder is selected.
-pub fn counts(slots: &Vec<HostSlot>, place: usize) -> Option<(u64, u64)>
+/// What is kept of a node's file, where the folder is selected.
+pub fn file_state(slots: &Vec<HostSlot>, place: usize) -> Option<FileState>
     requires { place < length slots.now.items }
     ensures { (d : HostSlotOf) → MatchOption result (is_counted (slice_index_or slots.now.items place d).here ≡ false)
-        (λ p. (slice_index_or slots.now.items place d).here ≡ HostPlace.Counted p.0 p.1) }
+        (λ s. (slice_index_or slots.now.items place d).here ≡ HostPlace.Counted s) }
 {
     match &slots[place].here {
-        HostPlace::Counted(faults, cuts) => Some((*faults, *cuts)),
+        HostPlace::Counted(state) => Some(*state),
         _ => None,
     }
 }
@@ -107,7 +116,7 @@ pub fn place_for(disk: HostDisk) -> HostPlace
 {
     match disk {
         HostDisk::Memory(disk) => HostPlace::Memory(disk),
-        HostDisk::File(file) => HostPlace::Counted(file.faults, file.cuts),
+        HostDisk::File(file) => HostPlace::Counted(file.state),
     }
 }
 

@@ -13,6 +13,7 @@ mod images;
 mod marks;
 mod mem_disk;
 mod mem_farm;
+mod mem_slot;
 mod past;
 mod power;
 mod reads;

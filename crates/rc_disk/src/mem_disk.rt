@@ -2,7 +2,7 @@
 ghost use Rattle.std.specs.Prelude.{◌≡◌, ◌≢◌, ◌+◌, ◌-◌, ◌≤◌, ◌<◌, ℕ, List, [], length, Option, Some, None, IfOk, OnOk, OnErr, IsTrue, is_ok, is_none, refl};
 ghost use Rattle.std.proofs.Common.{inl, inr};
 ghost use Rattle.rc_ports.specs.Causes.{HasCause};
-ghost use Rattle.rc_disk.specs.Calls.{after, images_done, holds, cause_at, is_on, after_read};
+ghost use Rattle.rc_disk.specs.Calls.{after, images_done, power_after, holds, cause_at, is_on, after_read};
 ghost use Rattle.rc_disk.specs.Counts.{HasCuts, AreCounted};
 ghost use Rattle.rc_disk.specs.Crashes.{TakesTime};
 ghost use Rattle.rc_disk.specs.Past.{IsKept, LeftSince, IsOne, Grows, call_of, count_of, fits, moved, one_now, one_only};
@@ -128,7 +128,8 @@ impl MemDisk {
         requires calls { 1 ≤ self.old.calls.spare }
         ensures verdict { is_ok result ≡ is_none (verdict self.old.calls.fails.items (self.old.calls.made + 1) self.old.calls.power) }
         ensures told { told_of self.new ≡ after (call_of change written.now) (is_ok result) (told_of self.old) }
-        ensures power { OnOk result (IsTrue (holds self.old.calls.power)) }
+        ensures power { self.new.calls.power ≡ power_after self.old.calls.power }
+        ensures on { OnOk result (IsTrue (holds self.old.calls.power)) }
         ensures images { OnOk result (images_of self.new.images ≡ images_done (call_of change written.now) (images_of self.old.images)) }
         ensures crash { Steps (call_of change written.now) (IsOne (images_of self.old.images)) (IsOne (images_of self.new.images)) }
         ensures time { TakesTime (length self.old.past.events.items) (length self.new.past.events.items)
@@ -168,10 +169,8 @@ impl MemDisk {
 }
 
 impl MemDisk {
-    ghost use Rattle.std.specs.Prelude.{max};
-    ghost use Rattle.rc_disk.specs.Calls.{powered};
-    ghost use Rattle.rc_disk.specs.Places.{start_of};
-    ghost use Rattle.rc_disk.specs.MemDisks.{told_of, content_of, faults_of, cuts_of, failing_calls, failing_reads, standing_of, start_marked};
+    ghost use Rattle.rc_disk.specs.Places.{start_of, renewed};
+    ghost use Rattle.rc_disk.specs.MemDisks.{failing_calls, failing_reads, standing_of, start_marked};
 
     /// Its counts, as numbers to keep.
     pub fn marks(&self) -> Marks
@@ -192,9 +191,7 @@ impl MemDisk {
 
     /// Turns the power on, and raises the counts at least to these.
     pub fn renew(&mut self, faults: u64, cuts: u64)
-        ensures told { told_of self.new ≡ powered (told_of self.old) }
-        ensures faults { faults_of self.new ≡ max (faults_of self.old) faults }
-        ensures cuts { cuts_of self.new ≡ max (cuts_of self.old) cuts }
+        ensures standing { standing_of self.new ≡ renewed faults cuts (standing_of self.old) }
         ensures lists { (failing_calls self.new ≡ failing_calls self.old) × (failing_reads self.new ≡ failing_reads self.old) }
     {
         self.calls.power = Power::On;
@@ -204,7 +201,7 @@ impl MemDisk {
 }
 
 impl Disk for MemDisk {
-    ghost use Rattle.rc_disk.specs.MemDisks.{told_of, content_of, known_content, known_told, may_leave_of, moment_of, left_since_of, faults_of, cuts_of, spare_calls_of, spare_bytes_of, size_of};
+    ghost use Rattle.rc_disk.specs.MemDisks.{told_of, content_of, known_content, known_told, may_leave_of, moment_of, left_since_of, power_of, faults_of, cuts_of, spare_calls_of, spare_bytes_of, size_of};
     ghost use Rattle.rc_disk.specs.MemDisks.{call_is_done, read_is_done, HasSameLists, HasOtherReads};
     ghost use Rattle.std.specs.Prelude.{max, take, drop, IfSome};
     ghost use Rattle.std.specs.Option.{option_map};
@@ -222,6 +219,8 @@ impl Disk for MemDisk {
 
     ghost told = { λ d. known_told d };
 
+    ghost power = { λ d. power_of d };
+
     ghost faults = { λ d. faults_of d };
 
     ghost cuts = { λ d. cuts_of d };
@@ -233,6 +232,8 @@ impl Disk for MemDisk {
     ghost length_of = { λ d. size_of d };
 
     ghost told_content = { λ d. refl };
+
+    ghost told_power = { λ d. refl };
 
     ghost may_stay = { λ d. inr (inl refl) };
 
@@ -252,14 +253,15 @@ impl Disk for MemDisk {
         ensures content { known_content self.new ≡ known_content self.old }
         ensures length { size_of self.new ≡ size_of self.old }
         ensures told { known_told self.new ≡ option_map (after_read (is_ok result)) (known_told self.old) }
-        ensures power { OnOk result (IfSome (known_told self.old) (λ t. IsTrue (is_on t.power))) }
+        ensures power { power_of self.new ≡ power_of self.old }
+        ensures on { OnOk result (IsTrue (is_on (power_of self.old))) }
         ensures crash { AddsNone (may_leave_of self.old) (may_leave_of self.new) }
         ensures time { TakesTime (moment_of self.old) (moment_of self.new) (left_since_of self.old) (left_since_of self.new) (may_leave_of self.new) }
         ensures spare_calls { spare_calls_of self.new ≡ spare_calls_of self.old }
         ensures spare_bytes { spare_bytes_of self.new ≡ spare_bytes_of self.old }
         ensures cause { HasCause (faults_of self.old) (faults_of self.new) result }
         ensures cuts { HasCuts (cuts_of self.old) (cuts_of self.new) result }
-        ensures counts { IfSome (known_told self.old) (λ t. AreCounted (read_cause t.power) (is_ok result) (faults_of self.old) (faults_of self.new) (cuts_of self.old) (cuts_of self.new)) }
+        ensures counts { AreCounted (read_cause (power_of self.old)) (is_ok result) (faults_of self.old) (faults_of self.new) (cuts_of self.old) (cuts_of self.new) }
 
         // By its lists.
         ensures by_list { is_ok result ≡ read_is_done self.old }
@@ -282,14 +284,15 @@ impl Disk for MemDisk {
         ensures done { OnOk result (known_content self.new ≡ option_map (effect (Writes place bytes.now)) (known_content self.old)) }
         ensures length { OnOk result (size_of self.new ≡ max (size_of self.old) (place + length bytes.now)) }
         ensures told { known_told self.new ≡ option_map (after (Writes place bytes.now) (is_ok result)) (known_told self.old) }
-        ensures power { OnOk result (IfSome (known_told self.old) (λ t. IsTrue (holds t.power))) }
+        ensures power { power_of self.new ≡ power_after (power_of self.old) }
+        ensures on { OnOk result (IsTrue (holds (power_of self.old))) }
         ensures crash { Stems (Patches place (length bytes.now)) (may_leave_of self.old) (may_leave_of self.new) }
         ensures time { TakesTime (moment_of self.old) (moment_of self.new) (left_since_of self.old) (left_since_of self.new) (may_leave_of self.new) }
         ensures spare_calls { spare_calls_of self.new + 1 ≡ spare_calls_of self.old }
         ensures spare_bytes { spare_bytes_of self.new + length bytes.now ≡ spare_bytes_of self.old }
         ensures cause { HasCause (faults_of self.old) (faults_of self.new) result }
         ensures cuts { HasCuts (cuts_of self.old) (cuts_of self.new) result }
-        ensures counts { IfSome (known_told self.old) (λ t. AreCounted (cause_at t.power) (is_ok result) (faults_of self.old) (faults_of self.new) (cuts_of self.old) (cuts_of self.new)) }
+        ensures counts { AreCounted (cause_at (power_of self.old)) (is_ok result) (faults_of self.old) (faults_of self.new) (cuts_of self.old) (cuts_of self.new) }
 
         // By its lists.
         ensures by_list { is_ok result ≡ call_is_done self.old }
@@ -304,14 +307,15 @@ impl Disk for MemDisk {
         ensures done { OnOk result (known_content self.new ≡ option_map (effect (Shortens len)) (known_content self.old)) }
         ensures length { OnOk result (size_of self.new ≡ len) }
         ensures told { known_told self.new ≡ option_map (after (Shortens len) (is_ok result)) (known_told self.old) }
-        ensures power { OnOk result (IfSome (known_told self.old) (λ t. IsTrue (holds t.power))) }
+        ensures power { power_of self.new ≡ power_after (power_of self.old) }
+        ensures on { OnOk result (IsTrue (holds (power_of self.old))) }
         ensures crash { Stems (Trims len) (may_leave_of self.old) (may_leave_of self.new) }
         ensures time { TakesTime (moment_of self.old) (moment_of self.new) (left_since_of self.old) (left_since_of self.new) (may_leave_of self.new) }
         ensures spare_calls { spare_calls_of self.new + 1 ≡ spare_calls_of self.old }
         ensures spare_bytes { spare_bytes_of self.new ≡ spare_bytes_of self.old }
         ensures cause { HasCause (faults_of self.old) (faults_of self.new) result }
         ensures cuts { HasCuts (cuts_of self.old) (cuts_of self.new) result }
-        ensures counts { IfSome (known_told self.old) (λ t. AreCounted (cause_at t.power) (is_ok result) (faults_of self.old) (faults_of self.new) (cuts_of self.old) (cuts_of self.new)) }
+        ensures counts { AreCounted (cause_at (power_of self.old)) (is_ok result) (faults_of self.old) (faults_of self.new) (cuts_of self.old) (cuts_of self.new) }
 
         // By its lists.
         ensures by_list { is_ok result ≡ call_is_done self.old }
@@ -326,14 +330,15 @@ impl Disk for MemDisk {
         ensures content { OnOk result (known_content self.new ≡ known_content self.old) }
         ensures length { OnOk result (size_of self.new ≡ size_of self.old) }
         ensures told { known_told self.new ≡ option_map (after Syncs (is_ok result)) (known_told self.old) }
-        ensures power { OnOk result (IfSome (known_told self.old) (λ t. IsTrue (holds t.power))) }
+        ensures power { power_of self.new ≡ power_after (power_of self.old) }
+        ensures on { OnOk result (IsTrue (holds (power_of self.old))) }
         ensures crash { AddsNone (may_leave_of self.old) (may_leave_of self.new) }
         ensures time { TakesTime (moment_of self.old) (moment_of self.new) (left_since_of self.old) (left_since_of self.new) (may_leave_of self.new) }
         ensures spare_calls { spare_calls_of self.new + 1 ≡ spare_calls_of self.old }
         ensures spare_bytes { spare_bytes_of self.new ≡ spare_bytes_of self.old }
         ensures cause { HasCause (faults_of self.old) (faults_of self.new) result }
         ensures cuts { HasCuts (cuts_of self.old) (cuts_of self.new) result }
-        ensures counts { IfSome (known_told self.old) (λ t. AreCounted (cause_at t.power) (is_ok result) (faults_of self.old) (faults_of self.new) (cuts_of self.old) (cuts_of self.new)) }
+        ensures counts { AreCounted (cause_at (power_of self.old)) (is_ok result) (faults_of self.old) (faults_of self.new) (cuts_of self.old) (cuts_of self.new) }
 
         // By its lists.
         ensures by_list { is_ok result ≡ call_is_done self.old }
@@ -348,6 +353,7 @@ impl Disk for MemDisk {
         ensures content { known_content self.new ≡ known_content self.old }
         ensures length { size_of self.new ≡ size_of self.old }
         ensures told { known_told self.new ≡ known_told self.old }
+        ensures power { power_of self.new ≡ power_of self.old }
         ensures crash { AddsNone (may_leave_of self.old) (may_leave_of self.new) }
         ensures time { TakesTime (moment_of self.old) (moment_of self.new) (left_since_of self.old) (left_since_of self.new) (may_leave_of self.new) }
         ensures faults { faults_of self.new ≡ faults_of self.old }
@@ -369,6 +375,7 @@ impl Disk for MemDisk {
         ensures content { known_content self.new ≡ known_content self.old }
         ensures length { size_of self.new ≡ size_of self.old }
         ensures told { known_told self.new ≡ option_map (armed k pick) (known_told self.old) }
+        ensures power { power_of self.new ≡ Power.Armed k pick }
         ensures crash { AddsNone (may_leave_of self.old) (may_leave_of self.new) }
         ensures time { TakesTime (moment_of self.old) (moment_of self.new) (left_since_of self.old) (left_since_of self.new) (may_leave_of self.new) }
         ensures spare_calls { spare_calls_of self.new ≡ spare_calls_of self.old }
@@ -385,6 +392,7 @@ impl Disk for MemDisk {
     fn power_on(&mut self)
         ensures content { IfSome (known_content self.new) (may_leave_of self.old) }
         ensures told { known_told self.new ≡ option_map powered (known_told self.old) }
+        ensures power { power_of self.new ≡ Power.On }
         ensures crash { AddsNone (may_leave_of self.old) (may_leave_of self.new) }
         ensures time { TakesTime (moment_of self.old) (moment_of self.new) (left_since_of self.old) (left_since_of self.new) (may_leave_of self.new) }
         ensures spare_calls { spare_calls_of self.new ≡ spare_calls_of self.old }

@@ -1,24 +1,13 @@
 // A farm of disks in memory.
-ghost use Rattle.std.specs.Prelude.{◌≡◌, ◌≢◌, ◌+◌, ◌≤◌, ◌<◌, ◌==◌, ℕ, length, IsTrue, IfOk, OnOk, OnErr, true, false, [], slice_index_or, slice_set, Some, None, is_none, All, MatchOption};
-ghost use Rattle.rc_disk.specs.declared.mem_farm.MemSlot.{MemSlot as MemSlotOf};
+ghost use Rattle.std.specs.Prelude.{◌≡◌, ◌≢◌, ◌+◌, ◌≤◌, ◌<◌, ◌==◌, ℕ, length, IsTrue, IfOk, OnOk, OnErr, true, false, [], slice_index_or, slice_set, Some, None, if◌then◌else◌, All, MatchOption};
 ghost use Rattle.rc_ports.specs.Causes.{Rose, is_listed, raised};
 
-use crate::marks::{Marks, Tallied};
-use crate::shelf::{Slot, place_of, select_all};
-use crate::{DeviceRefusal, Disk, Farm, MemDisk};
+use crate::mem_slot::{MemSlot, empty_slots, give, lend, put};
+use crate::shelf::{place_of, select_all};
+use crate::{DeviceRefusal, Farm, MemDisk};
 use rc_ids::{NoMemory, NodeId};
 use rc_ports::Word;
 use std::alloc::Global;
-use std::mem;
-
-/// The disk of a node that is selected, and that of the other place: of the folder, or of none.
-#[derive(Debug, Drop)]
-pub struct MemSlot {
-    pub here: Option<MemDisk>,
-    pub other: MemDisk,
-    pub in_folder: bool,
-    pub marks: Marks,
-}
 
 /// A farm of disks in memory, with a place for every node. A folder's are those that it was given, and empty ones
 /// for the nodes without. The calls of `select` and `disk` whose numbers are in its list fail; they are counted
@@ -35,14 +24,20 @@ pub struct MemFarm {
 
 impl MemFarm {
     ghost use Rattle.rc_ids.specs.declared.names.NodeId.{NodeId as NodeName};
-    ghost use Rattle.rc_disk.specs.MemDisks.{told_first, standing_of};
-    ghost use Rattle.rc_disk.specs.MemFarms.{mem_stands, mem_is_lent, slot_is_lent, standing_here};
+    ghost use Rattle.rc_disk.specs.Places.{start_of};
+    ghost use Rattle.rc_disk.specs.Shelves.{is_node};
+    ghost use Rattle.rc_disk.specs.MemDisks.{standing_of};
+    ghost use Rattle.rc_disk.specs.MemFarms.{mem_stands, mem_start, mem_is_lent, mem_folder, mem_in_folder, fresh, GivesFolder};
 
     /// A farm of empty disks, with the numbers of the calls that are to fail.
     pub fn new(alloc: Global, fails: Vec<u64>) -> Result<MemFarm, NoMemory>
         ensures lent { IfOk result (λ f. (n : NodeName) → mem_is_lent f n ≡ false) }
         ensures fails { IfOk result (λ f. f.fails ≡ fails) }
         ensures calls { IfOk result (λ f. (f.calls ≡ 0) × (f.faults ≡ 0)) }
+        ensures empty { IfOk result (λ f. (n : NodeName) → is_node n ≡ true → mem_stands f n ≡ fresh) }
+        ensures start { IfOk result (λ f. (n : NodeName) → mem_start f n ≡ start_of (mem_stands f n)) }
+        ensures folder { IfOk result (λ f. (n : NodeName) → is_node n ≡ true → mem_folder f n ≡ fresh) }
+        ensures in_folder { IfOk result (λ f. (n : NodeName) → mem_in_folder f n ≡ false) }
     {
         Ok(MemFarm {
             alloc,
@@ -58,6 +53,7 @@ impl MemFarm {
         requires { mem_is_lent self.old node ≡ false }
         ensures lent { (n : NodeName) → mem_is_lent self.new n ≡ mem_is_lent self.old n }
         ensures others { (n : NodeName) → n ≢ node → mem_stands self.new n ≡ mem_stands self.old n }
+        ensures folder { GivesFolder (standing_of disk) self.old self.new node }
         ensures lists { (self.new.fails ≡ self.old.fails) × (self.new.calls ≡ self.old.calls) × (self.new.faults ≡ self.old.faults) }
     {
         let place = place_of(&node);
@@ -80,6 +76,7 @@ impl MemFarm {
         ensures list { self.new.fails ≡ self.old.fails }
         ensures later { self.old.faults ≤ self.new.faults }
         ensures cause { result ≡ true → Rose self.old.faults self.new.faults }
+        ensures one { result ≡ true → self.new.faults ≡ raised self.old.faults }
         ensures none { result ≡ false → self.new.faults ≡ self.old.faults }
     {
         self.calls = self.calls.saturating_add(1);
@@ -92,111 +89,12 @@ impl MemFarm {
     }
 }
 
-impl MemSlot {
-    /// Empty disks.
-    fn new(alloc: Global) -> MemSlot
-        ensures { slot_is_lent result ≡ false }
-    {
-        MemSlot {
-            here: Some(MemDisk::new(alloc)),
-            other: MemDisk::new(alloc),
-            in_folder: false,
-            marks: Marks {
-                told: None,
-                faults: 0,
-                cuts: 0,
-            },
-        }
-    }
-
-    ghost use Rattle.rc_disk.specs.MemDisks.{told_of, content_of, faults_of, cuts_of, told_first};
-    ghost use Rattle.rc_disk.specs.MemFarms.{slot_is_lent};
-
-    /// The disk that is selected in place of this one.
-    fn chosen(&mut self, alloc: Global, disk: MemDisk, folder: bool) -> MemDisk
-        ensures empty { folder ≡ false → told_of result ≡ told_first [] }
-    {
-        let mut disk = disk;
-        if folder != self.in_folder {
-            mem::swap(&mut disk, &mut self.other);
-            self.in_folder = folder;
-        }
-        if folder { disk } else { MemDisk::new(alloc) }
-    }
-}
-
-impl Slot for MemSlot {
-    ghost use Rattle.rc_disk.specs.MemFarms.{slot_standing, slot_start, slot_is_lent};
-
-    ghost stands = { λ s. slot_standing s };
-
-    ghost start = { λ s. slot_start s };
-
-    ghost is_lent = { λ s. slot_is_lent s };
-
-    fn select(&mut self, alloc: Global, folder: bool) {
-        let Some(disk) = self.here.take() else {
-            return;
-        };
-        let before = disk.marks();
-        let mut disk = self.chosen(alloc, disk, folder);
-        disk.renew(before.faults, before.cuts);
-        self.marks = disk.marks();
-        self.here = Some(disk);
-    }
-}
-
-fn empty_slots(alloc: Global) -> Result<Vec<MemSlot>, NoMemory>
-    ensures length { IfOk result (λ v. length v.items ≡ 63) }
-    ensures here { IfOk result (λ v. All (λ s. is_none s.here ≡ false) v.items) }
-{
-    let mut slots = Vec::with_capacity(alloc, 63)?;
-    'filling: while slots.len() < 63 {
-        slots.push_reserved(MemSlot::new(alloc));
-    }
-    Ok(slots)
-}
-
-/// Takes out the disk of a slot.
-fn lend(slots: &mut Vec<MemSlot>, place: usize) -> Option<MemDisk>
-    requires { place < length slots.old.items }
-    ensures length { length slots.new.items ≡ length slots.old.items }
-    ensures disk { (d : MemSlotOf) → result ≡ (slice_index_or slots.old.items place d).here }
-    ensures slots { (d : MemSlotOf) → slots.new.items ≡ slice_set slots.old.items place (record (slice_index_or slots.old.items place d) { here = None }) }
-{
-    slots[place].here.take()
-}
-
-/// Gives the folder of a slot a disk.
-fn give(slots: &mut Vec<MemSlot>, place: usize, disk: MemDisk)
-    requires inside { place < length slots.old.items }
-    requires here { (d : MemSlotOf) → is_none (slice_index_or slots.old.items place d).here ≡ false }
-    ensures length { length slots.new.items ≡ length slots.old.items }
-    ensures changed { (y : MemSlotOf) × (slots.new.items ≡ slice_set slots.old.items place y) × (is_none y.here ≡ false) }
-{
-    let slot = &mut slots[place];
-    if slot.in_folder {
-        slot.here = Some(disk);
-    } else {
-        slot.other = disk;
-    }
-}
-
-/// Puts a disk into a slot.
-fn put(slots: &mut Vec<MemSlot>, place: usize, disk: MemDisk)
-    requires { place < length slots.old.items }
-    ensures length { length slots.new.items ≡ length slots.old.items }
-    ensures slots { (d : MemSlotOf) → slots.new.items ≡ slice_set slots.old.items place (record (slice_index_or slots.old.items place d) { here = Some disk }) }
-{
-    slots[place].here = Some(disk);
-}
-
 impl Farm for MemFarm {
-    ghost use Rattle.std.specs.Prelude.{IsNone, IsErrOf, is_err};
+    ghost use Rattle.std.specs.Prelude.{IsNone, IsErrOf, is_err, is_some};
     ghost use Rattle.rc_ids.specs.declared.names.NodeId.{NodeId as NodeName};
     ghost use Rattle.rc_disk.specs.Places.{start_of, IsReady, IsFresh, HasLaterCounts};
     ghost use Rattle.rc_disk.specs.MemDisks.{standing_of};
-    ghost use Rattle.rc_disk.specs.MemFarms.{mem_stands, mem_start, mem_is_lent, next_fails, CountsCall, CountsNone};
+    ghost use Rattle.rc_disk.specs.MemFarms.{mem_stands, mem_start, mem_is_lent, next_fails, CountsCall, CountsNone, Refuses, SelectsEach, KeepsFolder};
 
     type D = MemDisk;
 
@@ -221,9 +119,15 @@ impl Farm for MemFarm {
         ensures cause { IsErrOf result DeviceRefusal.Failed → Rose (self.old.faults) (self.new.faults) }
         ensures no_memory { IsErrOf result DeviceRefusal.NoMemory → self.new.faults ≡ self.old.faults }
 
-        // By its list.
+        // By its list. A call that fails answers Failed, and changes the counts alone.
         ensures by_list { is_err result ≡ next_fails self.old }
         ensures list { CountsCall self.old self.new }
+        ensures refusal { OnErr result (IsErrOf result DeviceRefusal.Failed) }
+        ensures refuses { OnErr result (Refuses self.old self.new) }
+        ensures no_fault { OnOk result (self.new.faults ≡ self.old.faults) }
+
+        // What stands afterwards.
+        ensures each { OnOk result ((n : NodeName) → SelectsEach (is_some dir.entry) self.old self.new n) }
     {
         if self.counts() {
             return Err(DeviceRefusal::Failed);
@@ -245,9 +149,14 @@ impl Farm for MemFarm {
         ensures cause { IsErrOf result DeviceRefusal.Failed → Rose (self.old.faults) (self.new.faults) }
         ensures no_memory { IsErrOf result DeviceRefusal.NoMemory → self.new.faults ≡ self.old.faults }
 
-        // By its list.
+        // By its list. A call that fails answers Failed, and changes the counts alone.
         ensures by_list { is_err result ≡ next_fails self.old }
         ensures list { CountsCall self.old self.new }
+        ensures refusal { OnErr result (IsErrOf result DeviceRefusal.Failed) }
+        ensures refuses { OnErr result (Refuses self.old self.new) }
+        ensures no_fault { OnOk result (self.new.faults ≡ self.old.faults) }
+
+        ensures folder { OnOk result (KeepsFolder None self.old self.new node) }
     {
         if self.counts() {
             return Err(DeviceRefusal::Failed);
@@ -267,6 +176,8 @@ impl Farm for MemFarm {
 
         // By its list.
         ensures list { CountsNone self.old self.new }
+
+        ensures folder { KeepsFolder (Some disk) self.old self.new node }
     {
         let place = place_of(&node);
         put(&mut self.slots, place, disk);

@@ -1,7 +1,7 @@
 // The slots of a farm, one for each node.
 ghost use Rattle.std.specs.Prelude.{◌≡◌, ◌<◌, Bool, true, false, length};
 ghost use Rattle.rc_disk.specs.Places.{Standing, Start};
-ghost use Rattle.rc_disk.specs.Shelves.{IsSelected, Walked, is_node, place};
+ghost use Rattle.rc_disk.specs.Shelves.{Walked, is_node, place};
 
 use rc_ids::NodeId;
 use std::alloc::Global;
@@ -14,15 +14,17 @@ pub trait Slot: Drop {
 
     ghost is_lent: { Self → Bool };
 
+    // What a selection makes of it, of the folder or of none.
+    ghost selects: { Bool → Self → Self → Type 0 };
+
     /// Selects the disk of the folder, or an empty one, where the slot's disk is not lent.
     fn select(&mut self, alloc: Global, folder: bool)
-        ensures { is_lent self.old ≡ false → IsSelected folder (stands self.old) (stands self.new) (start self.new) (is_lent self.new) };
+        ensures { is_lent self.old ≡ false → selects folder self.old self.new };
 }
 
 /// Selects in each slot.
 pub fn select_all<S: Slot>(alloc: Global, slots: &mut [S], folder: bool)
-    ensures { Walked (λ x y. S.is_lent x ≡ false → IsSelected folder (S.stands x) (S.stands y) (S.start y) (S.is_lent y))
-        slots.old slots.new (length slots.old) }
+    ensures { Walked (λ x y. S.is_lent x ≡ false → S.selects folder x y) slots.old slots.new (length slots.old) }
 {
     for slot in slots.iter_mut() {
         slot.select(alloc, folder);

@@ -38,6 +38,6 @@ tag_at max bytes = u8_at bytes >>= λ b. if nat_lt max b.0 then Err BadTag else 
 abbrev pub length_at : ℕ → List ℕ → Result (ℕ × List ℕ) FieldFault
 length_at max bytes = if nat_le max 255 then u8_at bytes else u16_at bytes
 
--- a length of at most max, and so many bytes
+-- a length of at most max, and so many bytes: a length above max is told before bytes that are missing
 abbrev pub counted_at : ℕ → List ℕ → Result (List ℕ × List ℕ) FieldFault
 counted_at max bytes = length_at max bytes >>= λ n. if nat_lt max n.0 then Err TooLong else bytes_at n.0 n.1

@@ -128,6 +128,7 @@ impl<'a> Fields<'a> {
     }
 
     /// A length of at most `max`, and so many bytes. The length takes one byte where `max` is at most 255, else two.
+    /// The length stands first: above `max` it is too long, also where its bytes are missing.
     pub fn counted(&mut self, max: u16) -> Result<&'a [u8], FieldFault>
         ensures ok { IfOk result (λ v. counted_at max self.old ≡ Ok (v.now, self.new)) }
         ensures err { IfErr result (λ e. (counted_at max self.old ≡ Err e) × (self.new ≡ self.old)) }

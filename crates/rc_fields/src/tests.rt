@@ -38,6 +38,11 @@ fn faults(rt: HostRuntime) {
     assert!(rt; matches!(fields.counted(2), Err(FieldFault::Short)));
     assert!(rt; matches!(fields.u32(), Err(FieldFault::Short)));
     assert_eq!(rt; fields.rest(), [2, 7].as_slice());
+    // the length stands before its bytes
+    assert!(rt; matches!(Fields::new(&[65]).counted(64), Err(FieldFault::TooLong)));
+    assert!(rt; matches!(Fields::new(&[4, 1]).counted(1024), Err(FieldFault::TooLong)));
+    assert!(rt; matches!(Fields::new(&[4]).counted(1024), Err(FieldFault::Short)));
+    assert!(rt; matches!(Fields::new(&[]).counted(64), Err(FieldFault::Short)));
 }
 
 /// Whether the bytes are a party, and are written so again.

@@ -3,12 +3,13 @@ use Rattle.std.proofs.Common.{◌≡◌, ℕ, ◌+◌, ◌^◌, ◌<◌, ◌≤�
 use Rattle.std.specs.Option.{ForSome}
 use Rattle.std.proofs.lemmas.Bool.Decides.{nat_tests}
 use Rattle.std.proofs.lemmas.List.Sums.{sum_by-append}
+use Rattle.rc_disk.specs.declared.power.Power.{Power}
 use Rattle.rc_disk.specs.declared.power.Cause.{Cause}
 use Rattle.rc_disk.specs.declared.power.Cause.TheVariants.{ByList, ByCut, WhileOff}
 use Rattle.rc_disk.specs.Calls.{Told, Images, Numbers, Call, Writes, Syncs, effect, filled, image, made, settled, seen, images_failed, did, after, cause_at, power_after}
 use Rattle.rc_disk.specs.Counts.{AreCounted}
 use Rattle.rc_log.specs.Records.{records, size_of, behind_gate}
-use Rattle.rc_log.specs.Append.{listed, listed_in, IsSettled, FailedAt, AreStill, append_calls, all_done, stopped_at, numbers_of, counted_by, stopped_by, keeps, with_or_without}
+use Rattle.rc_log.specs.Append.{listed, listed_in, IsSettled, FailedAt, AreStill, append_calls, all_done, stopped_at, numbers_of, counted_by, stopped_by, power_past, cause_of_call, keeps, with_or_without}
 use Rattle.rc_log.proofs.Frames.{Parts, parts_of}
 use Rattle.rc_log.proofs.Images.{still, gated}
 use Rattle.rc_log.proofs.Crashes.{same_some}
@@ -77,38 +78,61 @@ pub fuse : {A B C : Type 0} (f : B → C) (g : A → B) (o : Option A) → optio
 fuse f g None = refl
 fuse f g (Some a) = refl
 
+-- one call of a disk, as it went
+pub record Went (ok : Bool) (call : Call) (o now : Option Told) (p p' : Power) (f f' k k' : ℕ) : Type 0 where
+  pub told : now ≡ option_map (after call ok) o
+  pub power : p' ≡ power_after p
+  pub counts : AreCounted (cause_at p) ok f f' k k'
+
+-- a call that was done moves no count
+pub count_next : (c0 c : Cause) (f0 f f' k0 k k' : ℕ) → AreCounted c0 true f0 f k0 k → AreCounted c false f f' k k' → AreCounted c false f0 f' k0 k'
+count_next c0 c f0 f f' k0 k k' done failed =
+    subst (λ (g : ℕ). AreCounted c false f0 f' g k') done.of_cuts (subst (λ (g : ℕ). AreCounted c false g f' k k') done.all_faults failed)
+
+pub still_next : (c0 : Cause) (f0 f f' k0 k k' : ℕ) → AreCounted c0 true f0 f k0 k → AreStill f f' k k' → AreStill f0 f' k0 k'
+still_next c0 f0 f f' k0 k k' done rest = record { same_faults = rest.same_faults ∙ done.all_faults; same_cuts = rest.same_cuts ∙ done.of_cuts }
+
+pub still_one : (c : Cause) (f f' k k' : ℕ) → AreCounted c true f f' k k' → AreStill f f' k k'
+still_one c f f' k k' done = record { same_faults = done.all_faults; same_cuts = done.of_cuts }
+
 -- a call fails
-stop : (content : Option (List ℕ)) (ml : List ℕ → Type 0) (before now : Option Told) (len place : ℕ) (r : List ℕ) (n f f' k k' : ℕ) (cause_of : Told → Cause)
-    → IfSome before (λ t. AreCounted (cause_of t) false f f' k k') → IsSettled content ml before len place → IfSome before (λ t. content ≡ Some (seen t)) → 1 ≤ n → n ≤ 4
+stop : (content : Option (List ℕ)) (ml : List ℕ → Type 0) (before now : Option Told) (len place : ℕ) (r : List ℕ) (n f f' k k' : ℕ) (p p' : Power) (cause_of : Power → Cause)
+    → IfSome before (λ t. t.power ≡ p) → AreCounted (cause_of p) false f f' k k' → cause_of_call n p ≡ cause_of p → p' ≡ power_past n p
+    → IsSettled content ml before len place → IfSome before (λ t. content ≡ Some (seen t)) → 1 ≤ n → n ≤ 4
     → now ≡ option_map (stopped_at n (append_calls place r)) before
-    → ((t : Told) → (stopped_at n (append_calls place r) t).numbers ≡ stopped_by n (cause_of t) t.numbers)
-    → ((c : List ℕ) → records c ≡ Ok (listed c) → place ≡ size_of (listed c) → (t : Told) → t.images ≡ settled c → records (seen (stopped_at n (append_calls place r) t)) ≡ Ok (with_or_without (keeps n (cause_of t)) (listed c) r))
-    → FailedAt before now (option_map listed content) place r f f' k k'
-stop content ml None now len place r n f f' k k' cause_of counts s law low high is numbers kept = record {
+    → ((t : Told) → (stopped_at n (append_calls place r) t).numbers ≡ stopped_by n (cause_of t.power) t.numbers)
+    → ((c : List ℕ) → records c ≡ Ok (listed c) → place ≡ size_of (listed c) → (t : Told) → t.images ≡ settled c → records (seen (stopped_at n (append_calls place r) t)) ≡ Ok (with_or_without (keeps n (cause_of t.power)) (listed c) r))
+    → FailedAt before now (Some p) (Some p') (option_map listed content) place r f f' k k'
+stop content ml None now len place r n f f' k k' p p' cause_of told_power counts reason past s law low high is numbers kept = record {
   call = n;
-  cause = ByList;
+  cause = cause_of p;
   low = low;
   high = high;
+  reason = ap Some reason;
+  power_is = ap Some past;
   whole_state = is;
-  counts = tt;
+  counts = counts;
   numbers = ap numbers_of is;
-  kept = subst (λ (o : Option Told). IfSome o (λ t. IfSome (option_map listed content) (λ rs. records (seen t) ≡ Ok (with_or_without (keeps n ByList) rs r)))) (sym is) tt;
+  kept = subst (λ (o : Option Told). IfSome o (λ t. IfSome (option_map listed content) (λ rs. records (seen t) ≡ Ok (with_or_without (keeps n (cause_of p)) rs r)))) (sym is) tt;
 }
-stop content ml (Some t) now len place r n f f' k k' cause_of counts s law low high is numbers kept =
+stop content ml (Some t) now len place r n f f' k k' p p' cause_of told_power counts reason past s law low high is numbers kept =
     let c = t.images.plain in
     let whole : records c ≡ Ok (listed c) = s.whole c law in
     let at : place ≡ size_of (listed c) = s.place_is c law in
-    let left = kept c whole at t (s.synced t refl) in
+    let left : records (seen (stopped_at n (append_calls place r) t)) ≡ Ok (with_or_without (keeps n (cause_of p)) (listed c) r) =
+    kept c whole at t (s.synced t refl) ∙ ap (λ (q : Power). Ok (with_or_without (keeps n (cause_of q)) (listed c) r)) told_power in
     record {
       call = n;
-      cause = cause_of t;
+      cause = cause_of p;
       low = low;
       high = high;
+      reason = ap Some reason;
+      power_is = ap Some past;
       whole_state = is;
       counts = counts;
-      numbers = ap numbers_of is ∙ ap Some (numbers t);
-      kept = subst (λ (o : Option Told). IfSome o (λ u. IfSome (option_map listed content) (λ rs. records (seen u) ≡ Ok (with_or_without (keeps n (cause_of t)) rs r)))) (sym is)
-          (subst (λ (o : Option (List ℕ)). IfSome (option_map listed o) (λ rs. records (seen (stopped_at n (append_calls place r) t)) ≡ Ok (with_or_without (keeps n (cause_of t)) rs r))) (sym law) left);
+      numbers = ap numbers_of is ∙ ap Some (numbers t ∙ ap (λ (q : Power). stopped_by n (cause_of q) t.numbers) told_power);
+      kept = subst (λ (o : Option Told). IfSome o (λ u. IfSome (option_map listed content) (λ rs. records (seen u) ≡ Ok (with_or_without (keeps n (cause_of p)) rs r)))) (sym is)
+          (subst (λ (o : Option (List ℕ)). IfSome (option_map listed o) (λ rs. records (seen (stopped_at n (append_calls place r) t)) ≡ Ok (with_or_without (keeps n (cause_of p)) rs r))) (sym law) left);
     }
 
 unfoldable pub with_calls : ℕ → Cause → Numbers → Numbers
@@ -118,9 +142,9 @@ pub counted_as : (calls k : ℕ) (cause : Cause) (n : Numbers) → calls ≡ n.c
 unfolding with_calls
 counted_as calls k cause n is = ap (λ (m : ℕ). with_calls m cause n) is
 
-module _ (content : Option (List ℕ)) (ml : List ℕ → Type 0) (before now : Option Told) (len place : ℕ) (r : List ℕ) (s : IsSettled content ml before len place) (law : IfSome before (λ t. content ≡ Some (seen t))) (short : length r < 2 ^ 32) (f f' k k' : ℕ) where
+module _ (content : Option (List ℕ)) (ml : List ℕ → Type 0) (before now : Option Told) (len place : ℕ) (r : List ℕ) (s : IsSettled content ml before len place) (law : IfSome before (λ t. content ≡ Some (seen t))) (short : length r < 2 ^ 32) (p p' : Power) (told_power : IfSome before (λ t. t.power ≡ p)) (f f' k k' : ℕ) where
   abbrev Fails : Type 0
-  Fails = FailedAt before now (option_map listed content) place r f f' k k'
+  Fails = FailedAt before now (Some p) (Some p') (option_map listed content) place r f f' k k'
 
   abbrev write : Call
   write = Writes (place + 1) (behind_gate r)
@@ -128,39 +152,50 @@ module _ (content : Option (List ℕ)) (ml : List ℕ → Type 0) (before now : 
   abbrev open_gate : Call
   open_gate = Writes place (1 ∷ [])
 
-  pub fails1 : IfSome before (λ t. AreCounted (cause_at t.power) false f f' k k') → now ≡ option_map (after write false) before → Fails
+  pub fails1 : Went false write before now p p' f f' k k' → Fails
   unfolding with_calls
-  fails1 counts is = stop content ml before now len place r 1 f f' k k' (λ t. cause_at t.power) counts s law (omega arith) (omega arith) is
+  fails1 one = stop content ml before now len place r 1 f f' k k' p p' cause_at told_power one.counts refl one.power s law (omega arith) (omega arith) one.told
       (λ t. counted_as (t.numbers.calls + 1) 1 (cause_at t.power) t.numbers refl)
       (λ c whole at t im. ap (λ (i : Images). records (images_failed (cause_at t.power) write i).plain) im ∙ kept1 c (listed c) r place whole at short (cause_at t.power))
 
-  pub fails2 : IfSome before (λ t. AreCounted (cause_at (power_after t.power)) false f f' k k') → (o1 : Option Told) → o1 ≡ option_map (after write true) before → now ≡ option_map (after Syncs false) o1 → Fails
+  pub fails2 : (o1 : Option Told) (p1 : Power) (f1 k1 : ℕ) → Went true write before o1 p p1 f f1 k k1 → Went false Syncs o1 now p1 p' f1 f' k1 k' → Fails
   unfolding with_calls
-  fails2 counts o1 is1 is = stop content ml before now len place r 2 f f' k k' (λ t. cause_at (power_after t.power)) counts s law (omega arith) (omega arith)
-      (is ∙ ap (option_map (after Syncs false)) is1 ∙ fuse _ _ before)
+  fails2 o1 p1 f1 k1 one two = stop content ml before now len place r 2 f f' k k' p p' (λ q. cause_at (power_after q)) told_power
+      (count_next _ _ f f1 f' k k1 k' one.counts (subst (λ (q : Power). AreCounted (cause_at q) false f1 f' k1 k') one.power two.counts))
+      refl (two.power ∙ ap power_after one.power) s law (omega arith) (omega arith)
+      (two.told ∙ ap (option_map (after Syncs false)) one.told ∙ fuse _ _ before)
       (λ t. counted_as (t.numbers.calls + 1 + 1) 2 (cause_at (power_after t.power)) t.numbers (omega arith))
       (λ c whole at t im. ap (λ (i : Images). records (images_failed (cause_at (power_after t.power)) Syncs (made write i)).plain) im ∙ kept2 c (listed c) r place whole at short (cause_at (power_after t.power)))
 
-  pub fails3 : IfSome before (λ t. AreCounted (cause_at (power_after (power_after t.power))) false f f' k k') → (o1 o2 : Option Told) → o1 ≡ option_map (after write true) before → o2 ≡ option_map (after Syncs true) o1 → now ≡ option_map (after open_gate false) o2 → Fails
+  pub fails3 : (o1 o2 : Option Told) (p1 p2 : Power) (f1 f2 k1 k2 : ℕ) → Went true write before o1 p p1 f f1 k k1 → Went true Syncs o1 o2 p1 p2 f1 f2 k1 k2 → Went false open_gate o2 now p2 p' f2 f' k2 k' → Fails
   unfolding with_calls
-  fails3 counts o1 o2 is1 is2 is = stop content ml before now len place r 3 f f' k k' (λ t. cause_at (power_after (power_after t.power))) counts s law (omega arith) (omega arith)
-      (is ∙ ap (option_map (after open_gate false)) (is2 ∙ ap (option_map (after Syncs true)) is1 ∙ fuse _ _ before) ∙ fuse _ _ before)
+  fails3 o1 o2 p1 p2 f1 f2 k1 k2 one two three =
+      let past2 : p2 ≡ power_after (power_after p) = two.power ∙ ap power_after one.power in
+      stop content ml before now len place r 3 f f' k k' p p' (λ q. cause_at (power_after (power_after q))) told_power
+      (count_next _ _ f f1 f' k k1 k' one.counts (count_next _ _ f1 f2 f' k1 k2 k' two.counts (subst (λ (q : Power). AreCounted (cause_at q) false f2 f' k2 k') past2 three.counts)))
+      refl (three.power ∙ ap power_after past2) s law (omega arith) (omega arith)
+      (three.told ∙ ap (option_map (after open_gate false)) (two.told ∙ ap (option_map (after Syncs true)) one.told ∙ fuse _ _ before) ∙ fuse _ _ before)
       (λ t. counted_as (t.numbers.calls + 1 + 1 + 1) 3 (cause_at (power_after (power_after t.power))) t.numbers (omega arith))
       (λ c whole at t im. ap (λ (i : Images). records (images_failed (cause_at (power_after (power_after t.power))) open_gate (settled (made write i).plain)).plain) im
       ∙ kept3 c (listed c) r place whole at short (cause_at (power_after (power_after t.power))))
 
-  pub fails4 : IfSome before (λ t. AreCounted (cause_at (power_after (power_after (power_after t.power)))) false f f' k k') → (o1 o2 o3 : Option Told) → o1 ≡ option_map (after write true) before → o2 ≡ option_map (after Syncs true) o1 → o3 ≡ option_map (after open_gate true) o2 → now ≡ option_map (after Syncs false) o3 → Fails
+  pub fails4 : (o1 o2 o3 : Option Told) (p1 p2 p3 : Power) (f1 f2 f3 k1 k2 k3 : ℕ) → Went true write before o1 p p1 f f1 k k1 → Went true Syncs o1 o2 p1 p2 f1 f2 k1 k2 → Went true open_gate o2 o3 p2 p3 f2 f3 k2 k3
+      → Went false Syncs o3 now p3 p' f3 f' k3 k' → Fails
   unfolding with_calls
-  fails4 counts o1 o2 o3 is1 is2 is3 is = stop content ml before now len place r 4 f f' k k' (λ t. cause_at (power_after (power_after (power_after t.power)))) counts s law (omega arith) (omega arith)
-      (is ∙ ap (option_map (after Syncs false)) (is3 ∙ ap (option_map (after open_gate true)) (is2 ∙ ap (option_map (after Syncs true)) is1 ∙ fuse _ _ before) ∙ fuse _ _ before) ∙ fuse _ _ before)
+  fails4 o1 o2 o3 p1 p2 p3 f1 f2 f3 k1 k2 k3 one two three four =
+      let past3 : p3 ≡ power_after (power_after (power_after p)) = three.power ∙ ap power_after (two.power ∙ ap power_after one.power) in
+      stop content ml before now len place r 4 f f' k k' p p' (λ q. cause_at (power_after (power_after (power_after q)))) told_power
+      (count_next _ _ f f1 f' k k1 k' one.counts (count_next _ _ f1 f2 f' k1 k2 k' two.counts (count_next _ _ f2 f3 f' k2 k3 k' three.counts (subst (λ (q : Power). AreCounted (cause_at q) false f3 f' k3 k') past3 four.counts))))
+      refl (four.power ∙ ap power_after past3) s law (omega arith) (omega arith)
+      (four.told ∙ ap (option_map (after Syncs false)) (three.told ∙ ap (option_map (after open_gate true)) (two.told ∙ ap (option_map (after Syncs true)) one.told ∙ fuse _ _ before) ∙ fuse _ _ before) ∙ fuse _ _ before)
       (λ t. counted_as (t.numbers.calls + 1 + 1 + 1 + 1) 4 (cause_at (power_after (power_after (power_after t.power)))) t.numbers (omega arith))
       (λ c whole at t im. ap (λ (i : Images). records (images_failed (cause_at (power_after (power_after (power_after t.power)))) Syncs (made open_gate (settled (made write i).plain))).plain) im
       ∙ kept4 c (listed c) r place whole at short (cause_at (power_after (power_after (power_after t.power)))))
 
-  pub whole_run : (o1 o2 o3 : Option Told) → o1 ≡ option_map (after write true) before → o2 ≡ option_map (after Syncs true) o1 → o3 ≡ option_map (after open_gate true) o2 → now ≡ option_map (after Syncs true) o3
-      → now ≡ option_map (all_done (append_calls place r)) before
-  whole_run o1 o2 o3 is1 is2 is3 is =
-      is ∙ ap (option_map (after Syncs true)) (is3 ∙ ap (option_map (after open_gate true)) (is2 ∙ ap (option_map (after Syncs true)) is1 ∙ fuse _ _ before) ∙ fuse _ _ before) ∙ fuse _ _ before
+pub whole_run : (before now o1 o2 o3 : Option Told) (place : ℕ) (r : List ℕ) → o1 ≡ option_map (after (Writes (place + 1) (behind_gate r)) true) before → o2 ≡ option_map (after Syncs true) o1
+    → o3 ≡ option_map (after (Writes place (1 ∷ [])) true) o2 → now ≡ option_map (after Syncs true) o3 → now ≡ option_map (all_done (append_calls place r)) before
+whole_run before now o1 o2 o3 place r is1 is2 is3 is =
+    is ∙ ap (option_map (after Syncs true)) (is3 ∙ ap (option_map (after (Writes place (1 ∷ [])) true)) (is2 ∙ ap (option_map (after Syncs true)) is1 ∙ fuse _ _ before) ∙ fuse _ _ before) ∙ fuse _ _ before
 
 abbrev with_sum : ℕ → Numbers → Numbers
 with_sum m n = record { calls = m; failed = n.failed }
@@ -169,29 +204,6 @@ with_sum m n = record { calls = m; failed = n.failed }
 pub all_counted : (before now : Option Told) (place : ℕ) (r : List ℕ) → now ≡ option_map (all_done (append_calls place r)) before → numbers_of now ≡ option_map (counted_by 4) (numbers_of before)
 all_counted None now place r is = ap numbers_of is
 all_counted (Some t) now place r is = ap numbers_of is ∙ ap (λ (m : ℕ). Some (with_sum m t.numbers)) (omega arith)
-
--- COUNTS
-
--- a call that was done moves no count
-pub count_next : (before now : Option Told) (call : Call) (f0 f f' k0 k k' : ℕ) (cause_of : Told → Cause) → now ≡ option_map (did call) before
-    → IfSome before (λ t. AreCounted (cause_at t.power) true f0 f k0 k) → IfSome now (λ u. AreCounted (cause_of u) false f f' k k')
-    → IfSome before (λ t. AreCounted (cause_of (did call t)) false f0 f' k0 k')
-count_next None now call f0 f f' k0 k k' cause_of is done failed = tt
-count_next (Some t) now call f0 f f' k0 k k' cause_of is done failed =
-    let last = subst (λ (o : Option Told). IfSome o (λ u. AreCounted (cause_of u) false f f' k k')) is failed in
-    let to_start = subst (λ (g : ℕ). AreCounted (cause_of (did call t)) false g f' k k') done.all_faults last in
-    subst (λ (g : ℕ). AreCounted (cause_of (did call t)) false f0 f' g k') done.of_cuts to_start
-
-pub still_next : (before now : Option Told) (call : Call) (f0 f f' k0 k k' : ℕ) → now ≡ option_map (did call) before
-    → IfSome before (λ t. AreCounted (cause_at t.power) true f0 f k0 k) → IfSome now (λ u. AreStill f f' k k') → IfSome before (λ t. AreStill f0 f' k0 k')
-still_next None now call f0 f f' k0 k k' is done rest = tt
-still_next (Some t) now call f0 f f' k0 k k' is done rest =
-    let last = subst (λ (o : Option Told). IfSome o (λ u. AreStill f f' k k')) is rest in
-    record { same_faults = last.same_faults ∙ done.all_faults; same_cuts = last.same_cuts ∙ done.of_cuts }
-
-pub still_one : (before : Option Told) (f f' k k' : ℕ) → IfSome before (λ t. AreCounted (cause_at t.power) true f f' k k') → IfSome before (λ t. AreStill f f' k k')
-still_one None f f' k k' done = tt
-still_one (Some t) f f' k k' done = record { same_faults = done.all_faults; same_cuts = done.of_cuts }
 
 -- after a sync nothing is pending
 pub nothing_pending : (o now : Option Told) → now ≡ option_map (after Syncs true) o → ForSome now (λ t. t.images ≡ settled t.images.plain)

@@ -1,9 +1,10 @@
 -- What the calls of a log make of its disk.
-use Rattle.std.specs.Prelude.{ℕ, zero, suc, ◌≡◌, ◌⊎◌, ◌+◌, ◌≤◌, ◌==◌, ◌&&◌, ◌||◌, nat_le, Bool, false, if◌then◌else◌, List, [], ◌∷◌, ◌++◌, Option, IfSome, Ok, Err, Result}
+use Rattle.std.specs.Prelude.{ℕ, zero, suc, ◌≡◌, ◌⊎◌, ◌+◌, ◌-◌, ◌≤◌, ◌==◌, ◌&&◌, ◌||◌, nat_le, Bool, false, if◌then◌else◌, List, [], ◌∷◌, ◌++◌, Option, Some, IfSome, Ok, Err, Result}
 use Rattle.std.specs.Option.{option_map, ForSome}
+use Rattle.rc_disk.specs.declared.power.Power.{Power}
 use Rattle.rc_disk.specs.declared.power.Cause.{Cause}
 use Rattle.rc_disk.specs.declared.power.Cause.TheVariants.{ByList, ByCut, WhileOff}
-use Rattle.rc_disk.specs.Calls.{Told, Numbers, Call, Writes, Syncs, seen, settled, did, failed_to}
+use Rattle.rc_disk.specs.Calls.{Told, Numbers, Call, Writes, Syncs, seen, settled, did, failed_to, power_after, cause_at}
 use Rattle.rc_disk.specs.Counts.{AreCounted}
 use Rattle.rc_disk.specs.Crashes.{IsDurable}
 use Rattle.rc_log.specs.Records.{records, size_of, behind_gate}
@@ -50,6 +51,17 @@ counted_by calls n = record { calls = n.calls + calls; failed = n.failed }
 abbrev pub stopped_by : ℕ → Cause → Numbers → Numbers
 stopped_by calls cause n = record { calls = n.calls + calls; failed = n.failed ++ record { number = n.calls + calls; cause = cause } ∷ [] }
 
+-- POWER
+
+-- the power after so many calls
+abbrev pub power_past : ℕ → Power → Power
+power_past zero power = power
+power_past (suc calls) power = power_past calls (power_after power)
+
+-- why the call of this number fails, counted from 1
+abbrev pub cause_of_call : ℕ → Power → Cause
+cause_of_call call power = cause_at (power_past (call - 1) power)
+
 -- WHAT IS LEFT
 
 -- the bytes stand for the records, with one more or without it
@@ -86,12 +98,14 @@ pub record AreStill (faults faults_now cuts cuts_now : ℕ) : Type 0 where
   pub same_cuts : cuts_now ≡ cuts
 
 -- a call of an append at the place failed
-pub record FailedAt (before now : Option Told) (old : Option (List (List ℕ))) (place : ℕ) (r : List ℕ) (faults faults_now cuts cuts_now : ℕ) : Type 0 where
+pub record FailedAt (before now : Option Told) (power power_now : Option Power) (old : Option (List (List ℕ))) (place : ℕ) (r : List ℕ) (faults faults_now cuts cuts_now : ℕ) : Type 0 where
   pub call : ℕ
   pub cause : Cause
   pub low : 1 ≤ call
   pub high : call ≤ 4
+  pub reason : option_map (cause_of_call call) power ≡ Some cause
+  pub power_is : power_now ≡ option_map (power_past call) power
   pub whole_state : now ≡ option_map (stopped_at call (append_calls place r)) before
-  pub counts : IfSome before (λ t. AreCounted cause false faults faults_now cuts cuts_now)
+  pub counts : AreCounted cause false faults faults_now cuts cuts_now
   pub numbers : numbers_of now ≡ option_map (stopped_by call cause) (numbers_of before)
   pub kept : IfSome now (λ t. IfSome old (λ rs. records (seen t) ≡ Ok (with_or_without (keeps call cause) rs r)))

@@ -2,13 +2,15 @@
 use Rattle.std.specs.Prelude.{ℕ, ◌≡◌, ◌+◌, ◌-◌, ◌≤◌, nat_lt, Bool, true, false, if◌then◌else◌, List, [], ◌∷◌, ◌++◌, length, take, drop, Option, None, Some, IfSome}
 use Rattle.std.specs.Option.{option_map}
 use Rattle.rc_ports.specs.Causes.{Rose}
+use Rattle.rc_disk.specs.declared.power.Power.{Power}
+use Rattle.rc_disk.specs.declared.power.Power.TheVariants.{Armed}
 use Rattle.rc_disk.specs.Calls.{Told, Writes, effect, armed}
 use Rattle.rc_log.specs.Records.{size_of, behind_gate}
-use Rattle.rc_log.specs.Append.{listed, append_calls, all_done, numbers_of, counted_by, AreStill, FailedAt, LeavesEither}
+use Rattle.rc_log.specs.Append.{listed, append_calls, all_done, numbers_of, counted_by, power_past, AreStill, FailedAt, LeavesEither}
 
 -- The records of a journal, where they are told: those that it was opened with or whose append was done. After an
 -- append that failed its record is in hand. The size is the place of the gate behind the records. The rest is what
--- its disk tells, if it has one, and the disk's counts.
+-- its disk tells, if it has one, and the disk's power and counts.
 pub record State : Type 0 where
   pub records : Option (List (List ℕ))
   pub in_hand : Option (List ℕ)
@@ -18,6 +20,7 @@ pub record State : Type 0 where
   pub failed : Bool
   pub content : Option (List ℕ)
   pub told : Option Told
+  pub power : Option Power
   pub faults : ℕ
   pub cuts : ℕ
 
@@ -40,9 +43,8 @@ pub record Appends (old new : State) (r : List ℕ) : Type 0 where
   pub writes : new.content ≡ option_map (effect (Writes old.size (1 ∷ []))) (option_map (effect (Writes (old.size + 1) (behind_gate r))) old.content)
   pub calls : new.told ≡ option_map (all_done (append_calls old.size r)) old.told
   pub numbers : numbers_of new.told ≡ option_map (counted_by 4) (numbers_of old.told)
-  pub later_faults : old.faults ≤ new.faults
-  pub same_cuts : new.cuts ≡ old.cuts
-  pub same_counts : IfSome old.told (λ t. AreStill old.faults new.faults old.cuts new.cuts)
+  pub power_is : new.power ≡ option_map (power_past 4) old.power
+  pub same_counts : AreStill old.faults new.faults old.cuts new.cuts
 
 -- an append that the disk failed: the log holds the record or not
 pub record Fails (old new : State) (r : List ℕ) : Type 0 where
@@ -52,14 +54,14 @@ pub record Fails (old new : State) (r : List ℕ) : Type 0 where
   pub same_count : new.count ≡ old.count
   pub failed : new.failed ≡ true
   pub holds : IfSome new.content (LeavesEither old.records r)
-  pub calls : FailedAt old.told new.told old.records old.size r old.faults new.faults old.cuts new.cuts
+  pub calls : FailedAt old.told new.told old.power new.power old.records old.size r old.faults new.faults old.cuts new.cuts
   pub more_faults : Rose old.faults new.faults
   pub later_faults : old.faults ≤ new.faults
   pub later_cuts : old.cuts ≤ new.cuts
 
 -- with a cut of the power armed
 abbrev pub with_cut : ℕ → ℕ → State → State
-with_cut k pick s = record s { told = option_map (armed k pick) s.told }
+with_cut k pick s = record s { told = option_map (armed k pick) s.told; power = option_map (λ (p : Power). Armed k pick) s.power }
 
 -- LOGS
 
@@ -68,8 +70,8 @@ abbrev pub record_in : List ℕ → List ℕ
 record_in frame = take (length frame - 5) (drop 4 frame)
 
 -- the state of a log by its disk and its fields
-abbrev pub log_state : Option (List ℕ) → Option Told → ℕ → ℕ → ℕ → ℕ → ℕ → Bool → List ℕ → State
-log_state content told faults cuts end count limit failed frame = record {
+abbrev pub log_state : Option (List ℕ) → Option Told → Power → ℕ → ℕ → ℕ → ℕ → ℕ → Bool → List ℕ → State
+log_state content told power faults cuts end count limit failed frame = record {
   records = option_map (λ c. take count (listed c)) content;
   in_hand = if failed then Some (record_in frame) else None;
   size = end;
@@ -78,12 +80,13 @@ log_state content told faults cuts end count limit failed frame = record {
   failed = failed;
   content = content;
   told = told;
+  power = Some power;
   faults = faults;
   cuts = cuts;
 }
 
 -- a log that was just created or opened: it has these records
-pub record Begins (s : State) (rs : List (List ℕ)) (limit : ℕ) (content : Option (List ℕ)) (told : Option Told) : Type 0 where
+pub record Begins (s : State) (rs : List (List ℕ)) (limit : ℕ) (content : Option (List ℕ)) (told : Option Told) (power : Power) : Type 0 where
   pub has : s.records ≡ option_map (λ c. rs) content
   pub none_in_hand : s.in_hand ≡ None
   pub size_is : s.size ≡ size_of rs
@@ -92,6 +95,7 @@ pub record Begins (s : State) (rs : List (List ℕ)) (limit : ℕ) (content : Op
   pub sound : s.failed ≡ false
   pub content_is : s.content ≡ content
   pub calls : s.told ≡ told
+  pub power_is : s.power ≡ Some power
 
 -- IN MEMORY
 
@@ -106,6 +110,7 @@ list_state rs = record {
   failed = false;
   content = None;
   told = None;
+  power = None;
   faults = 0;
   cuts = 0;
 }

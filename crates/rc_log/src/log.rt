@@ -1,11 +1,11 @@
 // A log on a disk.
-ghost use Rattle.std.specs.Prelude.{◌≡◌, ◌≢◌, ◌+◌, ◌<◌, ◌≤◌, ◌^◌, ℕ, List, [], ◌∷◌, true, Ok, nat_lt, vec_capacity, IfOk, IfErr, IfSome, OnOk, OnErr};
+ghost use Rattle.std.specs.Prelude.{◌≡◌, ◌≢◌, ◌+◌, ◌<◌, ◌≤◌, ◌^◌, ℕ, List, [], ◌∷◌, true, Ok, nat_lt, vec_capacity, is_some, IfOk, IfErr, IfSome, OnOk, OnErr};
 ghost use Rattle.std.specs.Option.{option_map};
 ghost use Rattle.rc_ports.specs.Causes.{Rose};
 ghost use Rattle.rc_disk.specs.Crashes.{AddsNone, TakesTime, AtEachMoment};
 ghost use Rattle.rc_log.specs.Records.{records};
-ghost use Rattle.rc_log.specs.Append.{AreStill, create_calls, all_done, numbers_of, counted_by};
-ghost use Rattle.rc_log.specs.Opening.{IsNoBegin, IsDamage, IsOpenRun, synced_and_read};
+ghost use Rattle.rc_log.specs.Append.{AreStill, create_calls, all_done, numbers_of, counted_by, power_past};
+ghost use Rattle.rc_log.specs.Opening.{IsNoBegin, IsDamage, IsNoOpen, synced_and_read};
 ghost use Rattle.rc_log.specs.declared.fault.OpenFault.TheVariants.{Failed as OpenFailed};
 ghost use Rattle.rc_log.specs.Intact.{IsIntact};
 ghost use Rattle.rc_log.specs.Journals.{Begins, log_state};
@@ -52,15 +52,15 @@ impl<D: Disk> Log<D> {
     pub fn create(alloc: Global, disk: D, limit: u64) -> Result<Log<D>, (OpenFault, D)>
         requires empty { D.length_of disk ≡ 0 }
         requires limit { limit < 2 ^ 32 }
-        ensures begins { IfOk result (λ log. Begins (⟦<Log<D> as Journal>⟧.state log) [] limit (option_map (λ c. 0 ∷ []) (D.content disk)) (option_map (all_done create_calls) (D.told disk))) }
+        ensures begins { IfOk result (λ log. Begins (⟦<Log<D> as Journal>⟧.state log) [] limit (option_map (λ c. 0 ∷ []) (D.content disk)) (option_map (all_done create_calls) (D.told disk)) (power_past 2 (D.power disk))) }
         ensures numbers { IfOk result (λ log. numbers_of (D.told (disk_of log)) ≡ option_map (counted_by 2) (numbers_of (D.told disk))) }
-        ensures counts { IfOk result (λ log. IfSome (D.told disk) (λ t. AreStill (D.faults disk) (D.faults (disk_of log)) (D.cuts disk) (D.cuts (disk_of log)))) }
+        ensures counts { IfOk result (λ log. AreStill (D.faults disk) (D.faults (disk_of log)) (D.cuts disk) (D.cuts (disk_of log))) }
         ensures later { IfOk result (λ log. (D.faults disk ≤ D.faults (disk_of log)) × (D.cuts disk ≤ D.cuts (disk_of log))) }
 
         // From then on a crash leaves a log without records.
         ensures durable { IfOk result (λ log. (left : List ℕ) → D.may_leave (disk_of log) left → records left ≡ Ok []) }
 
-        ensures err { IfErr result (λ e. IsNoBegin e.0 (D.told disk) (D.told e.1) (D.faults disk) (D.faults e.1) (D.cuts disk) (D.cuts e.1)) }
+        ensures err { IfErr result (λ e. IsNoBegin e.0 (D.told disk) (D.told e.1) (D.power disk) (D.power e.1) (D.faults disk) (D.faults e.1) (D.cuts disk) (D.cuts e.1)) }
         ensures later_err { IfErr result (λ e. (D.faults disk ≤ D.faults e.1) × (D.cuts disk ≤ D.cuts e.1)) }
     {
         let mut disk = disk;
@@ -78,13 +78,14 @@ impl<D: Disk> Log<D> {
         }
     }
 
-    /// Opens a log: its records, by one sync and then one read. Nothing is written. A refusal hands the disk back.
+    /// Opens a log: its records, by one sync and then one read. Nothing is written. A refusal hands the disk back,
+    /// which may have been synced then; its fault says how many of the two calls were made.
     pub fn open(alloc: Global, disk: D, limit: u64) -> Result<(Log<D>, Blobs), (OpenFault, D)>
         requires { limit < 2 ^ 32 }
         ensures records { IfOk result (λ opened. IfSome (D.content disk) (λ c. records c ≡ Ok opened.1)) }
-        ensures begins { IfOk result (λ opened. Begins (⟦<Log<D> as Journal>⟧.state opened.0) opened.1 limit (D.content disk) (option_map (synced_and_read true) (D.told disk))) }
+        ensures begins { IfOk result (λ opened. Begins (⟦<Log<D> as Journal>⟧.state opened.0) opened.1 limit (D.content disk) (option_map (synced_and_read true) (D.told disk)) (power_past 1 (D.power disk))) }
         ensures numbers { IfOk result (λ opened. numbers_of (D.told (disk_of opened.0)) ≡ option_map (counted_by 1) (numbers_of (D.told disk))) }
-        ensures counts { IfOk result (λ opened. IfSome (D.told disk) (λ t. AreStill (D.faults disk) (D.faults (disk_of opened.0)) (D.cuts disk) (D.cuts (disk_of opened.0)))) }
+        ensures counts { IfOk result (λ opened. AreStill (D.faults disk) (D.faults (disk_of opened.0)) (D.cuts disk) (D.cuts (disk_of opened.0))) }
         ensures later { IfOk result (λ opened. (D.faults disk ≤ D.faults (disk_of opened.0)) × (D.cuts disk ≤ D.cuts (disk_of opened.0))) }
 
         // What was read is what a crash leaves.
@@ -92,8 +93,13 @@ impl<D: Disk> Log<D> {
         ensures any_moment { IfOk result (λ opened. AtEachMoment (D.moment disk) (D.moment (disk_of opened.0)) (D.left_since disk) (D.left_since (disk_of opened.0)) (D.may_leave disk)) }
 
         ensures damage { IfErr result (λ e. IsDamage (D.content disk) e.0) }
-        ensures run { IfErr result (λ e. IsOpenRun e.0 (D.told disk) (D.told e.1)) }
+        ensures refused { IfErr result (λ e. IsNoOpen (D.length_of disk) e.0 (D.told disk) (D.told e.1) (D.power disk) (D.power e.1)
+            (D.faults disk) (D.faults e.1) (D.cuts disk) (D.cuts e.1)) }
+
+        // The disk comes back, synced or not, and nothing was written.
         ensures same { IfErr result (λ e. e.0 ≢ OpenFailed → D.content e.1 ≡ D.content disk) }
+        ensures left { IfErr result (λ e. IfSome (D.content e.1) (D.may_leave disk)) }
+        ensures tells { IfErr result (λ e. is_some (D.content e.1) ≡ is_some (D.content disk)) }
         ensures cause { IfErr result (λ e. e.0 ≡ OpenFailed → Rose (D.faults disk) (D.faults e.1)) }
         ensures later_err { IfErr result (λ e. (D.faults disk ≤ D.faults e.1) × (D.cuts disk ≤ D.cuts e.1)) }
         ensures crash_err { IfErr result (λ e. AddsNone (D.may_leave disk) (D.may_leave e.1)) }
@@ -130,6 +136,7 @@ impl<D: Disk> Log<D> {
         ensures err { OnErr result (self.old.spare ≤ len) }
         ensures content { D.content self.new.disk ≡ D.content self.old.disk }
         ensures told { D.told self.new.disk ≡ D.told self.old.disk }
+        ensures power { D.power self.new.disk ≡ D.power self.old.disk }
         ensures faults { D.faults self.new.disk ≡ D.faults self.old.disk }
         ensures cuts { D.cuts self.new.disk ≡ D.cuts self.old.disk }
         ensures end { self.new.end ≡ self.old.end }
@@ -156,7 +163,7 @@ impl<D: Disk> Log<D> {
 }
 
 impl<D: Disk> Journal for Log<D> {
-    ghost state = { λ l. log_state (D.content l.disk) (D.told l.disk) (D.faults l.disk) (D.cuts l.disk) l.end l.count l.limit l.failed l.frame.items };
+    ghost state = { λ l. log_state (D.content l.disk) (D.told l.disk) (D.power l.disk) (D.faults l.disk) (D.cuts l.disk) l.end l.count l.limit l.failed l.frame.items };
 
     ghost spare = { λ l. l.spare };
 

@@ -60,8 +60,9 @@ pub fn read_whole<D: Disk>(alloc: Global, disk: &mut D) -> Result<Vec<u8>, OpenF
     ensures content { D.content disk.new ≡ D.content disk.old }
     ensures length { D.length_of disk.new ≡ D.length_of disk.old }
     ensures told { OnOk result (D.told disk.new ≡ option_map (read_or_none (D.length_of disk.old) true) (D.told disk.old)) }
-    ensures counts { OnOk result (IfSome (D.told disk.old) (λ t. AreStill (D.faults disk.old) (D.faults disk.new) (D.cuts disk.old) (D.cuts disk.new))) }
-    ensures err { IfErr result (λ e. IsNoRead e (D.told disk.old) (D.told disk.new) (D.faults disk.old) (D.faults disk.new) (D.cuts disk.old) (D.cuts disk.new)) }
+    ensures power { D.power disk.new ≡ D.power disk.old }
+    ensures counts { OnOk result (AreStill (D.faults disk.old) (D.faults disk.new) (D.cuts disk.old) (D.cuts disk.new)) }
+    ensures err { IfErr result (λ e. IsNoRead (D.length_of disk.old) e (D.told disk.old) (D.told disk.new) (D.power disk.old) (D.faults disk.old) (D.faults disk.new) (D.cuts disk.old) (D.cuts disk.new)) }
     ensures later_faults { D.faults disk.old ≤ D.faults disk.new }
     ensures later_cuts { D.cuts disk.old ≤ D.cuts disk.new }
     ensures crash { AddsNone (D.may_leave disk.old) (D.may_leave disk.new) }

@@ -1,12 +1,12 @@
 // The device calls of a log.
-ghost use Rattle.std.specs.Prelude.{◌≡◌, ◌+◌, ◌<◌, ◌≤◌, ◌^◌, ◌++◌, ℕ, List, [], ◌∷◌, length, vec_capacity, OnOk, OnErr, IfErr, IfSome, is_some};
+ghost use Rattle.std.specs.Prelude.{◌≡◌, ◌+◌, ◌<◌, ◌≤◌, ◌^◌, ◌++◌, ℕ, List, [], ◌∷◌, length, vec_capacity, OnOk, OnErr, IfErr, Some, is_some};
 ghost use Rattle.std.specs.Option.{option_map};
 ghost use Rattle.rc_ports.specs.Causes.{HasCause};
 ghost use Rattle.rc_disk.specs.Calls.{Writes, effect};
 ghost use Rattle.rc_disk.specs.Counts.{HasCuts};
 ghost use Rattle.rc_disk.specs.Crashes.{AtEachMoment};
 ghost use Rattle.rc_log.specs.Records.{behind_gate};
-ghost use Rattle.rc_log.specs.Append.{listed, IsSettled, FailedAt, LeavesEither, append_calls, create_calls, all_done, AreStill};
+ghost use Rattle.rc_log.specs.Append.{listed, IsSettled, FailedAt, LeavesEither, append_calls, create_calls, all_done, power_past, AreStill};
 ghost use Rattle.rc_log.specs.Opening.{IsNoBegin};
 
 use crate::OpenFault;
@@ -52,10 +52,11 @@ pub fn append_at<D: Disk>(
     ensures records { OnOk result (option_map listed (D.content disk.new) ≡ option_map (λ rs. rs ++ bytes.now ∷ []) (option_map listed (D.content disk.old))) }
     ensures content { OnOk result (D.content disk.new ≡ option_map (effect (Writes place (1 ∷ []))) (option_map (effect (Writes (place + 1) (behind_gate bytes.now))) (D.content disk.old))) }
     ensures told { OnOk result (D.told disk.new ≡ option_map (all_done (append_calls place bytes.now)) (D.told disk.old)) }
-    ensures counts { OnOk result (IfSome (D.told disk.old) (λ t. AreStill (D.faults disk.old) (D.faults disk.new) (D.cuts disk.old) (D.cuts disk.new))) }
+    ensures power { OnOk result (D.power disk.new ≡ power_past 4 (D.power disk.old)) }
+    ensures counts { OnOk result (AreStill (D.faults disk.old) (D.faults disk.new) (D.cuts disk.old) (D.cuts disk.new)) }
 
     // One failed.
-    ensures failed { OnErr result (FailedAt (D.told disk.old) (D.told disk.new) (option_map listed (D.content disk.old)) place bytes.now
+    ensures failed { OnErr result (FailedAt (D.told disk.old) (D.told disk.new) (Some (D.power disk.old)) (Some (D.power disk.new)) (option_map listed (D.content disk.old)) place bytes.now
         (D.faults disk.old) (D.faults disk.new) (D.cuts disk.old) (D.cuts disk.new)) }
 
     ensures tells { is_some (D.content disk.new) ≡ is_some (D.content disk.old) }
@@ -83,9 +84,9 @@ pub fn begin<D: Disk>(disk: &mut D) -> Result<(), OpenFault>
     ensures none { OnOk result (option_map listed (D.content disk.new) ≡ option_map (λ c. []) (D.content disk.old)) }
     ensures content { OnOk result (D.content disk.new ≡ option_map (λ c. 0 ∷ []) (D.content disk.old)) }
     ensures told { OnOk result (D.told disk.new ≡ option_map (all_done create_calls) (D.told disk.old)) }
-    ensures counts { OnOk result (IfSome (D.told disk.old) (λ t. AreStill (D.faults disk.old) (D.faults disk.new) (D.cuts disk.old) (D.cuts disk.new))) }
-    ensures ok_cuts { OnOk result (D.cuts disk.new ≡ D.cuts disk.old) }
-    ensures err { IfErr result (λ e. IsNoBegin e (D.told disk.old) (D.told disk.new) (D.faults disk.old) (D.faults disk.new) (D.cuts disk.old) (D.cuts disk.new)) }
+    ensures power { OnOk result (D.power disk.new ≡ power_past 2 (D.power disk.old)) }
+    ensures counts { OnOk result (AreStill (D.faults disk.old) (D.faults disk.new) (D.cuts disk.old) (D.cuts disk.new)) }
+    ensures err { IfErr result (λ e. IsNoBegin e (D.told disk.old) (D.told disk.new) (D.power disk.old) (D.power disk.new) (D.faults disk.old) (D.faults disk.new) (D.cuts disk.old) (D.cuts disk.new)) }
     ensures later_faults { D.faults disk.old ≤ D.faults disk.new }
     ensures later_cuts { D.cuts disk.old ≤ D.cuts disk.new }
 {

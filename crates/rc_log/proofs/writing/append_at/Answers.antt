@@ -1,9 +1,9 @@
 -- What stands after each way that the four calls of an append may go.
 use Rattle.std.proofs.Common.{◌≡◌, ℕ, ◌+◌, true, false, List, [], ◌∷◌, length, Option, option_map, ◌∙◌, ap, sym, subst, arith}
-use Rattle.rc_disk.specs.Calls.{Writes, Syncs, effect, after, cause_at, power_after}
+use Rattle.rc_disk.specs.Calls.{Writes, effect, after, power_after}
 use Rattle.rc_disk.specs.Crashes.{IsDurable}
 use Rattle.rc_log.specs.Records.{behind_gate}
-use Rattle.rc_log.proofs.Stops.{fails1, fails2, fails3, fails4, count_next, still_next, still_one, whole_run, nothing_pending, grew}
+use Rattle.rc_log.proofs.Stops.{fails1, fails2, fails3, fails4, still_next, still_one, whole_run, nothing_pending, grew}
 use Rattle.rc_log.proofs.Frames.{length-behind_gate}
 use Rattle.rc_log.proofs.Runs.{on_err, crash1, crash2, crash3, crash4, run0, run1, run2, run3, run4}
 use Rattle.rc_log.proofs.writing.append_at.Goals as goal
@@ -16,9 +16,8 @@ returns-in_err-write_at-clause-failed g c =
     let w = c.as_slice.result.now in
     let frame : w ≡ behind_gate r = c.as_slice.ensures.value ∙ c.fill.ensures.items in
     on_err c.from_residual.result _
-    (fails1 (g.D.Disk.content c.args.disk.now) (g.D.Disk.may_leave c.args.disk.now) (g.D.Disk.told c.args.disk.now) (g.D.Disk.told c.write_at.new.self) (g.D.Disk.length_of c.args.disk.now) place r s (g.met.D.Disk.told_content c.args.disk.now) (omega arith) (g.D.Disk.faults c.args.disk.now) (g.D.Disk.faults c.write_at.new.self) (g.D.Disk.cuts c.args.disk.now) (g.D.Disk.cuts c.write_at.new.self)
-    c.in_err-write_at.ensures.counts
-    (c.in_err-write_at.ensures.told ∙ ap (λ (b : List ℕ). option_map (after (Writes (place + 1) b) false) (g.D.Disk.told c.args.disk.now)) frame))
+    (fails1 (g.D.Disk.content c.args.disk.now) (g.D.Disk.may_leave c.args.disk.now) (g.D.Disk.told c.args.disk.now) (g.D.Disk.told c.write_at.new.self) (g.D.Disk.length_of c.args.disk.now) place r s (g.met.D.Disk.told_content c.args.disk.now) (omega arith) (g.D.Disk.power c.args.disk.now) (g.D.Disk.power c.write_at.new.self) (g.met.D.Disk.told_power c.args.disk.now) (g.D.Disk.faults c.args.disk.now) (g.D.Disk.faults c.write_at.new.self) (g.D.Disk.cuts c.args.disk.now) (g.D.Disk.cuts c.write_at.new.self)
+    (record { told = c.in_err-write_at.ensures.told ∙ ap (λ (b : List ℕ). option_map (after (Writes (place + 1) b) false) (g.D.Disk.told c.args.disk.now)) frame; power = c.write_at.ensures.power; counts = c.in_err-write_at.ensures.counts }))
 
 pub returns-in_err-write_at-clause-crash : goal.returns-in_err-write_at-clause-crash
 returns-in_err-write_at-clause-crash g c =
@@ -48,9 +47,10 @@ returns-in_err-sync-clause-failed g c =
     let w = c.as_slice.result.now in
     let frame : w ≡ behind_gate r = c.as_slice.ensures.value ∙ c.fill.ensures.items in
     on_err c.from_residual-in_err-sync.result _
-    (fails2 (g.D.Disk.content c.args.disk.now) (g.D.Disk.may_leave c.args.disk.now) (g.D.Disk.told c.args.disk.now) (g.D.Disk.told c.sync.new.self) (g.D.Disk.length_of c.args.disk.now) place r s (g.met.D.Disk.told_content c.args.disk.now) (omega arith) (g.D.Disk.faults c.args.disk.now) (g.D.Disk.faults c.sync.new.self) (g.D.Disk.cuts c.args.disk.now) (g.D.Disk.cuts c.sync.new.self)
-    (count_next (g.D.Disk.told c.args.disk.now) (g.D.Disk.told c.write_at.new.self) (Writes (place + 1) (behind_gate r)) (g.D.Disk.faults c.args.disk.now) (g.D.Disk.faults c.write_at.new.self) (g.D.Disk.faults c.sync.new.self) (g.D.Disk.cuts c.args.disk.now) (g.D.Disk.cuts c.write_at.new.self) (g.D.Disk.cuts c.sync.new.self) (λ t. cause_at t.power) (c.in_ok-write_at.ensures.told ∙ ap (λ (b : List ℕ). option_map (after (Writes (place + 1) b) true) (g.D.Disk.told c.args.disk.now)) frame) c.in_ok-write_at.ensures.counts c.in_err-sync.ensures.counts)
-    (g.D.Disk.told c.write_at.new.self) (c.in_ok-write_at.ensures.told ∙ ap (λ (b : List ℕ). option_map (after (Writes (place + 1) b) true) (g.D.Disk.told c.args.disk.now)) frame) c.in_err-sync.ensures.told)
+    (fails2 (g.D.Disk.content c.args.disk.now) (g.D.Disk.may_leave c.args.disk.now) (g.D.Disk.told c.args.disk.now) (g.D.Disk.told c.sync.new.self) (g.D.Disk.length_of c.args.disk.now) place r s (g.met.D.Disk.told_content c.args.disk.now) (omega arith) (g.D.Disk.power c.args.disk.now) (g.D.Disk.power c.sync.new.self) (g.met.D.Disk.told_power c.args.disk.now) (g.D.Disk.faults c.args.disk.now) (g.D.Disk.faults c.sync.new.self) (g.D.Disk.cuts c.args.disk.now) (g.D.Disk.cuts c.sync.new.self)
+    (g.D.Disk.told c.write_at.new.self) (g.D.Disk.power c.write_at.new.self) (g.D.Disk.faults c.write_at.new.self) (g.D.Disk.cuts c.write_at.new.self)
+    (record { told = c.in_ok-write_at.ensures.told ∙ ap (λ (b : List ℕ). option_map (after (Writes (place + 1) b) true) (g.D.Disk.told c.args.disk.now)) frame; power = c.write_at.ensures.power; counts = c.in_ok-write_at.ensures.counts })
+    (record { told = c.in_err-sync.ensures.told; power = c.sync.ensures.power; counts = c.in_err-sync.ensures.counts }))
 
 pub returns-in_err-sync-clause-crash : goal.returns-in_err-sync-clause-crash
 returns-in_err-sync-clause-crash g c =
@@ -81,9 +81,11 @@ returns-in_err-write_at-2-clause-failed g c =
     let w = c.as_slice.result.now in
     let frame : w ≡ behind_gate r = c.as_slice.ensures.value ∙ c.fill.ensures.items in
     on_err c.from_residual-in_err-write_at-2.result _
-    (fails3 (g.D.Disk.content c.args.disk.now) (g.D.Disk.may_leave c.args.disk.now) (g.D.Disk.told c.args.disk.now) (g.D.Disk.told c.write_at-2.new.self) (g.D.Disk.length_of c.args.disk.now) place r s (g.met.D.Disk.told_content c.args.disk.now) (omega arith) (g.D.Disk.faults c.args.disk.now) (g.D.Disk.faults c.write_at-2.new.self) (g.D.Disk.cuts c.args.disk.now) (g.D.Disk.cuts c.write_at-2.new.self)
-    (count_next (g.D.Disk.told c.args.disk.now) (g.D.Disk.told c.write_at.new.self) (Writes (place + 1) (behind_gate r)) (g.D.Disk.faults c.args.disk.now) (g.D.Disk.faults c.write_at.new.self) (g.D.Disk.faults c.write_at-2.new.self) (g.D.Disk.cuts c.args.disk.now) (g.D.Disk.cuts c.write_at.new.self) (g.D.Disk.cuts c.write_at-2.new.self) (λ t. cause_at (power_after t.power)) (c.in_ok-write_at.ensures.told ∙ ap (λ (b : List ℕ). option_map (after (Writes (place + 1) b) true) (g.D.Disk.told c.args.disk.now)) frame) c.in_ok-write_at.ensures.counts (count_next (g.D.Disk.told c.write_at.new.self) (g.D.Disk.told c.sync.new.self) Syncs (g.D.Disk.faults c.write_at.new.self) (g.D.Disk.faults c.sync.new.self) (g.D.Disk.faults c.write_at-2.new.self) (g.D.Disk.cuts c.write_at.new.self) (g.D.Disk.cuts c.sync.new.self) (g.D.Disk.cuts c.write_at-2.new.self) (λ t. cause_at t.power) c.in_ok-sync.ensures.told c.in_ok-sync.ensures.counts c.in_err-write_at-2.ensures.counts))
-    (g.D.Disk.told c.write_at.new.self) (g.D.Disk.told c.sync.new.self) (c.in_ok-write_at.ensures.told ∙ ap (λ (b : List ℕ). option_map (after (Writes (place + 1) b) true) (g.D.Disk.told c.args.disk.now)) frame) c.in_ok-sync.ensures.told c.in_err-write_at-2.ensures.told)
+    (fails3 (g.D.Disk.content c.args.disk.now) (g.D.Disk.may_leave c.args.disk.now) (g.D.Disk.told c.args.disk.now) (g.D.Disk.told c.write_at-2.new.self) (g.D.Disk.length_of c.args.disk.now) place r s (g.met.D.Disk.told_content c.args.disk.now) (omega arith) (g.D.Disk.power c.args.disk.now) (g.D.Disk.power c.write_at-2.new.self) (g.met.D.Disk.told_power c.args.disk.now) (g.D.Disk.faults c.args.disk.now) (g.D.Disk.faults c.write_at-2.new.self) (g.D.Disk.cuts c.args.disk.now) (g.D.Disk.cuts c.write_at-2.new.self)
+    (g.D.Disk.told c.write_at.new.self) (g.D.Disk.told c.sync.new.self) (g.D.Disk.power c.write_at.new.self) (g.D.Disk.power c.sync.new.self) (g.D.Disk.faults c.write_at.new.self) (g.D.Disk.faults c.sync.new.self) (g.D.Disk.cuts c.write_at.new.self) (g.D.Disk.cuts c.sync.new.self)
+    (record { told = c.in_ok-write_at.ensures.told ∙ ap (λ (b : List ℕ). option_map (after (Writes (place + 1) b) true) (g.D.Disk.told c.args.disk.now)) frame; power = c.write_at.ensures.power; counts = c.in_ok-write_at.ensures.counts })
+    (record { told = c.in_ok-sync.ensures.told; power = c.sync.ensures.power; counts = c.in_ok-sync.ensures.counts })
+    (record { told = c.in_err-write_at-2.ensures.told; power = c.write_at-2.ensures.power; counts = c.in_err-write_at-2.ensures.counts }))
 
 pub returns-in_err-write_at-2-clause-crash : goal.returns-in_err-write_at-2-clause-crash
 returns-in_err-write_at-2-clause-crash g c =
@@ -115,9 +117,12 @@ returns-in_err-sync-2-clause-failed g c =
     let w = c.as_slice.result.now in
     let frame : w ≡ behind_gate r = c.as_slice.ensures.value ∙ c.fill.ensures.items in
     on_err c.from_residual-in_err-sync-2.result _
-    (fails4 (g.D.Disk.content c.args.disk.now) (g.D.Disk.may_leave c.args.disk.now) (g.D.Disk.told c.args.disk.now) (g.D.Disk.told c.sync-2.new.self) (g.D.Disk.length_of c.args.disk.now) place r s (g.met.D.Disk.told_content c.args.disk.now) (omega arith) (g.D.Disk.faults c.args.disk.now) (g.D.Disk.faults c.sync-2.new.self) (g.D.Disk.cuts c.args.disk.now) (g.D.Disk.cuts c.sync-2.new.self)
-    (count_next (g.D.Disk.told c.args.disk.now) (g.D.Disk.told c.write_at.new.self) (Writes (place + 1) (behind_gate r)) (g.D.Disk.faults c.args.disk.now) (g.D.Disk.faults c.write_at.new.self) (g.D.Disk.faults c.sync-2.new.self) (g.D.Disk.cuts c.args.disk.now) (g.D.Disk.cuts c.write_at.new.self) (g.D.Disk.cuts c.sync-2.new.self) (λ t. cause_at (power_after (power_after t.power))) (c.in_ok-write_at.ensures.told ∙ ap (λ (b : List ℕ). option_map (after (Writes (place + 1) b) true) (g.D.Disk.told c.args.disk.now)) frame) c.in_ok-write_at.ensures.counts (count_next (g.D.Disk.told c.write_at.new.self) (g.D.Disk.told c.sync.new.self) Syncs (g.D.Disk.faults c.write_at.new.self) (g.D.Disk.faults c.sync.new.self) (g.D.Disk.faults c.sync-2.new.self) (g.D.Disk.cuts c.write_at.new.self) (g.D.Disk.cuts c.sync.new.self) (g.D.Disk.cuts c.sync-2.new.self) (λ t. cause_at (power_after t.power)) c.in_ok-sync.ensures.told c.in_ok-sync.ensures.counts (count_next (g.D.Disk.told c.sync.new.self) (g.D.Disk.told c.write_at-2.new.self) (Writes place (1 ∷ [])) (g.D.Disk.faults c.sync.new.self) (g.D.Disk.faults c.write_at-2.new.self) (g.D.Disk.faults c.sync-2.new.self) (g.D.Disk.cuts c.sync.new.self) (g.D.Disk.cuts c.write_at-2.new.self) (g.D.Disk.cuts c.sync-2.new.self) (λ t. cause_at t.power) c.in_ok-write_at-2.ensures.told c.in_ok-write_at-2.ensures.counts c.in_err-sync-2.ensures.counts)))
-    (g.D.Disk.told c.write_at.new.self) (g.D.Disk.told c.sync.new.self) (g.D.Disk.told c.write_at-2.new.self) (c.in_ok-write_at.ensures.told ∙ ap (λ (b : List ℕ). option_map (after (Writes (place + 1) b) true) (g.D.Disk.told c.args.disk.now)) frame) c.in_ok-sync.ensures.told c.in_ok-write_at-2.ensures.told c.in_err-sync-2.ensures.told)
+    (fails4 (g.D.Disk.content c.args.disk.now) (g.D.Disk.may_leave c.args.disk.now) (g.D.Disk.told c.args.disk.now) (g.D.Disk.told c.sync-2.new.self) (g.D.Disk.length_of c.args.disk.now) place r s (g.met.D.Disk.told_content c.args.disk.now) (omega arith) (g.D.Disk.power c.args.disk.now) (g.D.Disk.power c.sync-2.new.self) (g.met.D.Disk.told_power c.args.disk.now) (g.D.Disk.faults c.args.disk.now) (g.D.Disk.faults c.sync-2.new.self) (g.D.Disk.cuts c.args.disk.now) (g.D.Disk.cuts c.sync-2.new.self)
+    (g.D.Disk.told c.write_at.new.self) (g.D.Disk.told c.sync.new.self) (g.D.Disk.told c.write_at-2.new.self) (g.D.Disk.power c.write_at.new.self) (g.D.Disk.power c.sync.new.self) (g.D.Disk.power c.write_at-2.new.self) (g.D.Disk.faults c.write_at.new.self) (g.D.Disk.faults c.sync.new.self) (g.D.Disk.faults c.write_at-2.new.self) (g.D.Disk.cuts c.write_at.new.self) (g.D.Disk.cuts c.sync.new.self) (g.D.Disk.cuts c.write_at-2.new.self)
+    (record { told = c.in_ok-write_at.ensures.told ∙ ap (λ (b : List ℕ). option_map (after (Writes (place + 1) b) true) (g.D.Disk.told c.args.disk.now)) frame; power = c.write_at.ensures.power; counts = c.in_ok-write_at.ensures.counts })
+    (record { told = c.in_ok-sync.ensures.told; power = c.sync.ensures.power; counts = c.in_ok-sync.ensures.counts })
+    (record { told = c.in_ok-write_at-2.ensures.told; power = c.write_at-2.ensures.power; counts = c.in_ok-write_at-2.ensures.counts })
+    (record { told = c.in_err-sync-2.ensures.told; power = c.sync-2.ensures.power; counts = c.in_err-sync-2.ensures.counts }))
 
 pub returns-in_err-sync-2-clause-crash : goal.returns-in_err-sync-2-clause-crash
 returns-in_err-sync-2-clause-crash g c =
@@ -187,21 +192,20 @@ returns-clause-content g c =
 
 pub returns-clause-told : goal.returns-clause-told
 returns-clause-told g c =
-    let s = c.requires.settled in
     let r = c.args.bytes.now in
     let place = c.args.place in
     let w = c.as_slice.result.now in
     let frame : w ≡ behind_gate r = c.as_slice.ensures.value ∙ c.fill.ensures.items in
-    whole_run (g.D.Disk.content c.args.disk.now) (g.D.Disk.may_leave c.args.disk.now) (g.D.Disk.told c.args.disk.now) (g.D.Disk.told c.sync-2.new.self) (g.D.Disk.length_of c.args.disk.now) place r s (g.met.D.Disk.told_content c.args.disk.now) (omega arith) (g.D.Disk.faults c.args.disk.now) (g.D.Disk.faults c.sync-2.new.self) (g.D.Disk.cuts c.args.disk.now) (g.D.Disk.cuts c.sync-2.new.self) (g.D.Disk.told c.write_at.new.self) (g.D.Disk.told c.sync.new.self) (g.D.Disk.told c.write_at-2.new.self) (c.in_ok-write_at.ensures.told ∙ ap (λ (b : List ℕ). option_map (after (Writes (place + 1) b) true) (g.D.Disk.told c.args.disk.now)) frame) c.in_ok-sync.ensures.told c.in_ok-write_at-2.ensures.told c.in_ok-sync-2.ensures.told
+    whole_run (g.D.Disk.told c.args.disk.now) (g.D.Disk.told c.sync-2.new.self) (g.D.Disk.told c.write_at.new.self) (g.D.Disk.told c.sync.new.self) (g.D.Disk.told c.write_at-2.new.self) place r
+    (c.in_ok-write_at.ensures.told ∙ ap (λ (b : List ℕ). option_map (after (Writes (place + 1) b) true) (g.D.Disk.told c.args.disk.now)) frame) c.in_ok-sync.ensures.told c.in_ok-write_at-2.ensures.told c.in_ok-sync-2.ensures.told
+
+pub returns-clause-power : goal.returns-clause-power
+returns-clause-power g c =
+    c.sync-2.ensures.power ∙ ap power_after (c.write_at-2.ensures.power ∙ ap power_after (c.sync.ensures.power ∙ ap power_after c.write_at.ensures.power))
 
 pub returns-clause-counts : goal.returns-clause-counts
 returns-clause-counts g c =
-    let s = c.requires.settled in
-    let r = c.args.bytes.now in
-    let place = c.args.place in
-    let w = c.as_slice.result.now in
-    let frame : w ≡ behind_gate r = c.as_slice.ensures.value ∙ c.fill.ensures.items in
-    still_next (g.D.Disk.told c.args.disk.now) (g.D.Disk.told c.write_at.new.self) (Writes (place + 1) (behind_gate r)) (g.D.Disk.faults c.args.disk.now) (g.D.Disk.faults c.write_at.new.self) (g.D.Disk.faults c.sync-2.new.self) (g.D.Disk.cuts c.args.disk.now) (g.D.Disk.cuts c.write_at.new.self) (g.D.Disk.cuts c.sync-2.new.self) (c.in_ok-write_at.ensures.told ∙ ap (λ (b : List ℕ). option_map (after (Writes (place + 1) b) true) (g.D.Disk.told c.args.disk.now)) frame) c.in_ok-write_at.ensures.counts (still_next (g.D.Disk.told c.write_at.new.self) (g.D.Disk.told c.sync.new.self) Syncs (g.D.Disk.faults c.write_at.new.self) (g.D.Disk.faults c.sync.new.self) (g.D.Disk.faults c.sync-2.new.self) (g.D.Disk.cuts c.write_at.new.self) (g.D.Disk.cuts c.sync.new.self) (g.D.Disk.cuts c.sync-2.new.self) c.in_ok-sync.ensures.told c.in_ok-sync.ensures.counts (still_next (g.D.Disk.told c.sync.new.self) (g.D.Disk.told c.write_at-2.new.self) (Writes place (1 ∷ [])) (g.D.Disk.faults c.sync.new.self) (g.D.Disk.faults c.write_at-2.new.self) (g.D.Disk.faults c.sync-2.new.self) (g.D.Disk.cuts c.sync.new.self) (g.D.Disk.cuts c.write_at-2.new.self) (g.D.Disk.cuts c.sync-2.new.self) c.in_ok-write_at-2.ensures.told c.in_ok-write_at-2.ensures.counts (still_one (g.D.Disk.told c.write_at-2.new.self) (g.D.Disk.faults c.write_at-2.new.self) (g.D.Disk.faults c.sync-2.new.self) (g.D.Disk.cuts c.write_at-2.new.self) (g.D.Disk.cuts c.sync-2.new.self) c.in_ok-sync-2.ensures.counts)))
+    still_next _ _ _ _ _ _ _ c.in_ok-write_at.ensures.counts (still_next _ _ _ _ _ _ _ c.in_ok-sync.ensures.counts (still_next _ _ _ _ _ _ _ c.in_ok-write_at-2.ensures.counts (still_one _ _ _ _ _ c.in_ok-sync-2.ensures.counts)))
 
 pub returns-clause-settled : goal.returns-clause-settled
 returns-clause-settled g c =

@@ -1,5 +1,6 @@
 use Rattle.std.proofs.Common.{◌≡◌, ℕ, List, length, None, sym, ap, subst, ◌∙◌}
-use Rattle.rc_disk.specs.Places.{standing}
+use Rattle.rc_disk.specs.HostFarms.{place_standing}
+use Rattle.rc_disk.specs.declared.file_disk.FileState.{FileState}
 use Rattle.rc_disk.specs.declared.host_slot.HostPlace.TheVariants.{Counted, Lent}
 use Rattle.rc_disk.specs.declared.host_slot.HostSlot.{HostSlot}
 use Rattle.rc_disk.proofs.HostFarms.{Has, has, had}
@@ -26,9 +27,8 @@ file_out g c =
 
 pub returns-clause-disk : goal.returns-clause-disk
 returns-clause-disk g c =
-    had c.args.self.now.slots.items c.args.node (Counted c.in-Some.faults c.in-Some.cuts) c.place_of-place.result c.place_of-place.ensures.place c.place_of-place.ensures.node c.args.self.now.whole (λ d. c.in-Some.ensures d)
-    ∙ ap (λ (n : ℕ). standing None None n c.in-Some.cuts) (sym c.in_ok-disk.ensures.counts.0)
-    ∙ ap (λ (n : ℕ). standing None None c.in_ok-disk.disk.faults n) (sym c.in_ok-disk.ensures.counts.1)
+    had c.args.self.now.slots.items c.args.node (Counted c.in-Some.state) c.place_of-place.result c.place_of-place.ensures.place c.place_of-place.ensures.node c.args.self.now.whole (λ d. c.in-Some.ensures d)
+    ∙ ap (λ (s : FileState). place_standing (Counted s)) (sym c.in_ok-disk.ensures.state)
 
 pub returns-clause-lent : goal.returns-clause-lent
 returns-clause-lent g c = (file_out g c).lent

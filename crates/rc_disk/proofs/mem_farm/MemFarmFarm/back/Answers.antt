@@ -19,3 +19,6 @@ returns-clause-others c = (put_back c).others
 
 pub returns-clause-start : goal.returns-clause-start
 returns-clause-start c = (put_back c).start
+
+pub returns-clause-folder : goal.returns-clause-folder
+returns-clause-folder c = let it = put_back c in record { of_folder = it.of_folder; others = it.others_folder; in_folder = it.in_folder }

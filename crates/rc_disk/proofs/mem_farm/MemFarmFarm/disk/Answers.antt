@@ -1,7 +1,7 @@
 use Rattle.std.proofs.Common.{◌≡◌, ℕ, List, length, None, sym, ap, subst, ◌∙◌}
 use Rattle.rc_disk.specs.Shelves.{stands_in, start_in, lent_in}
 use Rattle.rc_disk.specs.MemFarms.{slot_standing, slot_start, slot_is_lent}
-use Rattle.rc_disk.specs.declared.mem_farm.MemSlot.{MemSlot}
+use Rattle.rc_disk.specs.declared.mem_slot.MemSlot.{MemSlot}
 use Rattle.rc_disk.proofs.MemFarms.{Holds, holds}
 use Rattle.rc_disk.proofs.mem_farm.MemFarmFarm.disk.Goals as goal
 
@@ -22,3 +22,6 @@ returns-clause-others c = (taken_out c).others
 
 pub returns-clause-start : goal.returns-clause-start
 returns-clause-start c = (taken_out c).start
+
+pub returns-clause-folder : goal.returns-clause-folder
+returns-clause-folder c = let it = taken_out c in record { of_folder = it.of_folder; others = it.others_folder; in_folder = it.in_folder }

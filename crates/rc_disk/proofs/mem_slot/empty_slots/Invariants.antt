@@ -1,12 +1,13 @@
-use Rattle.std.proofs.Common.{◌≡◌, ◌≤◌, ◌-◌, false, length, vec_capacity}
-use Rattle.std.specs.Prelude.{All, is_none}
-use Rattle.rc_disk.proofs.mem_farm.empty_slots.Given as goal
+use Rattle.std.proofs.Common.{◌≤◌, ◌-◌, length, vec_capacity}
+use Rattle.std.specs.Prelude.{All}
+use Rattle.rc_disk.specs.MemFarms.{IsFirst}
+use Rattle.rc_disk.proofs.mem_slot.empty_slots.Given as goal
 
 abbrev pub invariant-filling : goal.invariant-filling
 invariant-filling l = record {
   few : length l.slots.items ≤ 63;
   room : 63 ≤ vec_capacity l.slots;
-  here : All (λ s. is_none s.here ≡ false) l.slots.items;
+  first : All (λ s. IsFirst s) l.slots.items;
 }
 
 abbrev pub decreases-filling : goal.decreases-filling
