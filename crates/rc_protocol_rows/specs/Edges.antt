@@ -95,8 +95,8 @@ CallsAreCounted = behind 6 (5 ∷ 7 ∷ 9 ∷ []) ≡ 1 ∷ 3 ∷ []
 abbrev pub generated : List NumberedCommand
 generated =
     commands_of (script_of (ended (
-        codes "world 3 2" ∷ codes "split k5" ∷ codes "begin t1" ∷ codes "read t1 k4" ∷ codes "settle" ∷ codes "write t1 k6 v1" ∷ codes "commit t1"
-        ∷ codes "settle" ∷ [])))
+    codes "world 3 2" ∷ codes "split k5" ∷ codes "begin t1" ∷ codes "read t1 k4" ∷ codes "settle" ∷ codes "write t1 k6 v1" ∷ codes "commit t1"
+    ∷ codes "settle" ∷ [])))
 
 abbrev pub SummaryIs : Type 0
 SummaryIs =
