@@ -4,13 +4,12 @@
 mod page;
 mod pages;
 mod places;
-mod plain;
+mod row;
 mod rows;
 mod spares;
 #[cfg(test)]
 mod tests;
 mod versions;
 
-pub use plain::PlainVersions;
 pub use rows::Rows;
 pub use versions::Versions;

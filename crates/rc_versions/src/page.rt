@@ -2,12 +2,14 @@
 ghost use Rattle.std.specs.Prelude.{◌≡◌, ◌≤◌, ◌<◌, ◌+◌, ◌++◌, [], length, nat_lt, true, false, is_some, IfOk, IsTrue, vec_len, vec_capacity};
 ghost use Rattle.std.specs.Option.{option_copied};
 ghost use Rattle.rc_ids.specs.Tables.{found};
-ghost use Rattle.rc_ids.specs.Texts.{key_cmp};
+ghost use Rattle.rc_ids.specs.Texts.{IsKey, key_cmp};
 ghost use Rattle.rc_record.specs.ShardState.{version_at};
 ghost use Rattle.rc_versions.specs.Rows.{Rises, newest};
+ghost use Rattle.rc_versions.specs.Heads.{head_of as head_lem};
 ghost use Rattle.rc_versions.specs.Pages.{starts_by as starts_by_lem};
 
-use crate::places::{Row, count_below, insert_at, raise_at, row_of};
+use crate::places::{count_below, insert_at, raise_at, row_of};
+use crate::row::{Row, head_of};
 use rc_ids::{Key, NoMemory, Val, Version};
 use std::alloc::Global;
 use std::marker::Model;
@@ -69,12 +71,14 @@ impl Page {
         &self.rows
     }
 
-    /// Whether the first row's key is this one or below it.
-    pub fn starts_by(&self, key: &Key) -> bool
+    /// Whether the first row's key is this one, whose head this is, or below it.
+    pub fn starts_by(&self, head: u64, key: &Key) -> bool
+        requires head { head ≡ head_lem key.now }
+        requires key { IsKey key.now }
         ensures { result ≡ starts_by_lem key.now self.now }
     {
         match self.rows.first() {
-            Some(row) => *key >= row.0,
+            Some(row) => row.is_up_to(head, key),
             None => false,
         }
     }
@@ -146,7 +150,7 @@ impl Page {
         ensures upper { 0 < length result }
     {
         let mut upper = self.split(upper);
-        if upper.starts_by(key) {
+        if upper.starts_by(head_of(key), key) {
             upper.insert(key, version, val);
         } else {
             self.insert(key, version, val);

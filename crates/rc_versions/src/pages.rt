@@ -8,6 +8,7 @@ ghost use Rattle.rc_versions.specs.Rows.{newest};
 ghost use Rattle.rc_versions.specs.Pages.{all_rows, IsPaged, IsPageOf, reach};
 
 use crate::page::Page;
+use crate::row::head_of;
 use crate::spares::Spares;
 use rc_ids::{Key, NoMemory, Val, Version};
 
@@ -17,7 +18,8 @@ pub fn count_up_to(pages: &[Page], key: &Key) -> usize
     ensures count { result ≡ reach key.now pages.now }
     ensures few { result ≤ length pages.now }
 {
-    pages.partition_point(|page| page.starts_by(key))
+    let head = head_of(key);
+    pages.partition_point(|page| page.starts_by(head, key))
 }
 
 /// The place of the page where the key stands or belongs; 0 where there is no page.

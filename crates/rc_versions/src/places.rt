@@ -6,10 +6,8 @@ ghost use Rattle.rc_ids.specs.Texts.{key_cmp};
 ghost use Rattle.rc_record.specs.ShardState.{version_at};
 ghost use Rattle.rc_versions.specs.Rows.{Rises, rank, held, newest};
 
+use crate::row::{Row, head_of};
 use rc_ids::{Key, Val, Version};
-
-/// A key with its version and its value.
-pub type Row = (Key, (Version, Val));
 
 /// How many rows have keys below this one.
 pub fn count_below(rows: &[Row], key: &Key) -> usize
@@ -17,14 +15,15 @@ pub fn count_below(rows: &[Row], key: &Key) -> usize
     ensures count { result ≡ rank key.now rows.now }
     ensures few { result ≤ length rows.now }
 {
-    rows.partition_point(|row| *key > row.0)
+    let head = head_of(key);
+    rows.partition_point(|row| row.is_below(head, key))
 }
 
 /// Whether the row at the place has the key.
 pub fn has_at(rows: &[Row], place: usize, key: &Key) -> bool
     ensures { result ≡ is_some (held key.now (slice_get rows.now place)) }
 {
-    place < rows.len() && rows[place].0 == *key
+    place < rows.len() && rows[place].has_key(key)
 }
 
 /// The version and the value of the key, where it is there.
@@ -36,7 +35,7 @@ pub fn row_of<'a>(rows: &'a [Row], key: &Key) -> Option<&'a (Version, Val)>
     if !has_at(rows, place, key) {
         return None;
     }
-    Some(&rows[place].1)
+    Some(rows[place].held())
 }
 
 /// Gives the key, which stands at this place, the version and the value, if its version there is lower, and says so.
@@ -49,9 +48,9 @@ pub fn raise_at(rows: &mut [Row], place: usize, key: &Key, version: Version, val
     ensures rise { Rises rows.new }
 {
     let row = &mut rows[place];
-    let is_newer = row.1.0 < version;
+    let is_newer = row.version() < version;
     if is_newer {
-        row.1 = (version, val);
+        row.set(version, val);
     }
     is_newer
 }
@@ -69,5 +68,5 @@ pub fn insert_at(rows: &mut Vec<Row>, place: usize, key: &Key, version: Version,
     ensures len { vec_len rows.new ≡ vec_len rows.old + 1 }
     ensures capacity { vec_capacity rows.new ≡ vec_capacity rows.old }
 {
-    let _placed = rows.insert(place, (key.copy(), (version, val)));
+    let _placed = rows.insert(place, Row::new(key, version, val));
 }
