@@ -6,28 +6,30 @@ ghost use Rattle.rc_ids.specs.Texts.{key_cmp};
 ghost use Rattle.rc_record.specs.ShardState.{version_at};
 ghost use Rattle.rc_versions.specs.Rows.{Rises, rank, held, newest};
 
-use crate::row::{Row, head_of};
-use rc_ids::{Key, Val, Version};
+use crate::HeadedKey;
+use rc_ids::{Val, Version};
+
+/// A key with its version and its value.
+pub type Row = (HeadedKey, (Version, Val));
 
 /// How many rows have keys below this one.
-pub fn count_below(rows: &[Row], key: &Key) -> usize
+pub fn count_below(rows: &[Row], key: &HeadedKey) -> usize
     requires { Rises rows.now }
     ensures count { result ≡ rank key.now rows.now }
     ensures few { result ≤ length rows.now }
 {
-    let head = head_of(key);
-    rows.partition_point(|row| row.is_below(head, key))
+    rows.partition_point(|row| *key > row.0)
 }
 
 /// Whether the row at the place has the key.
-pub fn has_at(rows: &[Row], place: usize, key: &Key) -> bool
+pub fn has_at(rows: &[Row], place: usize, key: &HeadedKey) -> bool
     ensures { result ≡ is_some (held key.now (slice_get rows.now place)) }
 {
-    place < rows.len() && rows[place].has_key(key)
+    place < rows.len() && rows[place].0 == *key
 }
 
 /// The version and the value of the key, where it is there.
-pub fn row_of<'a>(rows: &'a [Row], key: &Key) -> Option<&'a (Version, Val)>
+pub fn row_of<'a>(rows: &'a [Row], key: &HeadedKey) -> Option<&'a (Version, Val)>
     requires { Rises rows.now }
     ensures { option_copied result ≡ found key_cmp rows.now key.now }
 {
@@ -35,11 +37,11 @@ pub fn row_of<'a>(rows: &'a [Row], key: &Key) -> Option<&'a (Version, Val)>
     if !has_at(rows, place, key) {
         return None;
     }
-    Some(rows[place].held())
+    Some(&rows[place].1)
 }
 
 /// Gives the key, which stands at this place, the version and the value, if its version there is lower, and says so.
-pub fn raise_at(rows: &mut [Row], place: usize, key: &Key, version: Version, val: Val) -> bool
+pub fn raise_at(rows: &mut [Row], place: usize, key: &HeadedKey, version: Version, val: Val) -> bool
     requires rises { Rises rows.old }
     requires place { place ≡ rank key.now rows.old }
     requires there { is_some (held key.now (slice_get rows.old place)) ≡ true }
@@ -48,15 +50,15 @@ pub fn raise_at(rows: &mut [Row], place: usize, key: &Key, version: Version, val
     ensures rise { Rises rows.new }
 {
     let row = &mut rows[place];
-    let is_newer = row.version() < version;
+    let is_newer = row.1.0 < version;
     if is_newer {
-        row.set(version, val);
+        row.1 = (version, val);
     }
     is_newer
 }
 
 /// Puts the key, which is not there, in its place. There is room.
-pub fn insert_at(rows: &mut Vec<Row>, place: usize, key: &Key, version: Version, val: Val)
+pub fn insert_at(rows: &mut Vec<Row>, place: usize, key: &HeadedKey, version: Version, val: Val)
     requires room { vec_len rows.old < vec_capacity rows.old }
     requires rises { Rises rows.old.items }
     requires place { place ≡ rank key.now rows.old.items }
@@ -68,5 +70,5 @@ pub fn insert_at(rows: &mut Vec<Row>, place: usize, key: &Key, version: Version,
     ensures len { vec_len rows.new ≡ vec_len rows.old + 1 }
     ensures capacity { vec_capacity rows.new ≡ vec_capacity rows.old }
 {
-    let _placed = rows.insert(place, Row::new(key, version, val));
+    let _placed = rows.insert(place, (key.copy(), (version, val)));
 }

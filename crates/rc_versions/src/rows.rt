@@ -5,7 +5,7 @@ ghost use Rattle.rc_versions.specs.Rows.{row_shown};
 ghost use Rattle.rc_versions.specs.Pages.{all_rows, AreFilled};
 
 use crate::page::Page;
-use crate::row::Row;
+use crate::places::Row;
 use rc_ids::{Key, Val, Version};
 use std::marker::Model;
 
@@ -63,6 +63,6 @@ impl<'a> Iterator for Rows<'a> {
         let (first, others, pages) = first_row(self.rows, self.pages)?;
         self.rows = others;
         self.pages = pages;
-        Some(first.shown())
+        Some((first.0.key(), first.1.0, &first.1.1))
     }
 }

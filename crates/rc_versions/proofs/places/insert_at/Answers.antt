@@ -1,4 +1,4 @@
-use Rattle.std.proofs.Common.{List, Bool, insert, sym, ap, subst, ◌∙◌, arith, if◌then◌else◌}
+use Rattle.std.proofs.Common.{ℕ, List, Bool, insert, sym, ap, subst, ◌∙◌, arith, if◌then◌else◌}
 use Rattle.rc_body.specs.Rows.{Row}
 use Rattle.rc_versions.specs.Rows.{Rises}
 use Rattle.rc_versions.proofs.RowFacts.{newest_insert, rank_few, newer_none, Rises-newest}
@@ -13,10 +13,10 @@ insert-placed-requires c =
 pub returns-clause-rows : goal.returns-clause-rows
 returns-clause-rows c =
     let rows : List Row = c.args.rows.now.items in
-    let put : Row → List Row = λ r. insert rows c.args.place r in
+    let put : List ℕ → List Row = λ k. insert rows c.args.place (k, (c.args.version, c.args.val)) in
     c.insert-placed.ensures.items
-    ∙ ap (λ (b : Bool). if b then put c.new.result else rows) (c.insert-placed.ensures.succeeds c.requires.room)
-    ∙ ap put c.new.ensures
+    ∙ ap (λ (b : Bool). if b then put c.copy.result else rows) (c.insert-placed.ensures.succeeds c.requires.room)
+    ∙ ap put c.copy.ensures
     ∙ newest_insert c.args.key.now rows c.args.place c.args.version c.args.val c.requires.rises c.requires.place c.requires.absent c.requires.written
 
 pub returns-clause-rise : goal.returns-clause-rise

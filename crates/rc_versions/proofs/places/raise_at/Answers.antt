@@ -1,5 +1,4 @@
-use Rattle.std.proofs.Common.{slice_set, sym, ap, subst, ◌∙◌, rules}
-use Rattle.rc_body.specs.Rows.{Row}
+use Rattle.std.proofs.Common.{sym, subst, rules}
 use Rattle.rc_versions.specs.Rows.{Rises}
 use Rattle.rc_versions.proofs.RowFacts.{raise_said, raise_newer, raise_older, Rises-newest}
 use Rattle.rc_versions.proofs.places.raise_at.Goals as goal
@@ -11,8 +10,7 @@ returns-then-is_newer-clause-said c =
 
 pub returns-then-is_newer-clause-rows : goal.returns-then-is_newer-clause-rows
 returns-then-is_newer-clause-rows c =
-    ap (λ (r : Row). slice_set c.args.rows.now c.args.place r) c.set.ensures
-    ∙ raise_newer c.args.key.now c.args.rows.now c.args.place c.index-rows-place.result c.args.version c.args.val c.lt-is_newer.result c.requires.place
+    raise_newer c.args.key.now c.args.rows.now c.args.place c.index-rows-place.result c.args.version c.args.val c.lt-is_newer.result c.requires.place
     c.requires.there c.index-rows-place.is (returns-then-is_newer-clause-said c) c.if-is_newer.true
 
 pub returns-then-is_newer-clause-rise : goal.returns-then-is_newer-clause-rise

@@ -15,6 +15,6 @@ bounds-rows-place c =
 
 pub returns : goal.returns
 returns c =
-    ap Some c.held.ensures
+    ap (λ r. Some r.1) (sym c.index-rows-place.is)
     ∙ found_some c.args.key.now c.args.rows.now c.count_below-place.result c.index-rows-place.result c.requires c.count_below-place.ensures.count
     (sym c.has_at.ensures ∙ c.if-not-has_at.false) c.index-rows-place.is

@@ -2,7 +2,7 @@ use Rattle.std.proofs.Common.{ℕ, List, [], ◌∷◌, ap, ◌∙◌}
 use Rattle.std.specs.Int.{from_be_bytes, w64}
 use Rattle.rc_versions.specs.Heads.{head_of}
 use Rattle.rc_versions.proofs.HeadFacts.{head_made}
-use Rattle.rc_versions.proofs.row.head_of.Goals as goal
+use Rattle.rc_versions.proofs.headed.head_of.Goals as goal
 
 pub returns-clause-head : goal.returns-clause-head
 returns-clause-head c =
