@@ -2,23 +2,23 @@
 use Rattle.std.proofs.Common.{◌≡◌, ℕ, suc, ◌+◌, ◌≤◌, ◌<◌, Bool, true, false, not, ◌||◌, ◌&&◌, ◌==◌, cond, if◌then◌else◌, List, [], ◌∷◌, insert, length, drop, slice_get, Option, Some, Vec, Global, vec_len, vec_capacity, refl, sym, ap, ◌∙◌, subst, arith}
 use Rattle.std.specs.declared.cmp.Ordering.{Ordering}
 use Rattle.std.specs.declared.cmp.Ordering.TheVariants.{Less, Equal, Greater}
-use Rattle.std.specs.Ordering.{nat_cmp, is_eq, match_ordering}
+use Rattle.std.specs.Ordering.{nat_cmp, match_ordering}
 use Rattle.std.specs.List.{list_any}
 use Rattle.std.specs.Cmp.Lexicographic.{texts_ties}
 use Rattle.std.proofs.lemmas.Cmp.{nat_cmp_total, nat_list_cmp_total}
 use Rattle.std.proofs.lemmas.Map.Keys.{any_passes_from_place}
 use Rattle.std.proofs.lemmas.List.Edits.{length-insert}
-use Rattle.rc_ids.specs.Tables.{Table, found, added, maybe}
-use Rattle.rc_ids.specs.Texts.{key_cmp, same_key}
+use Rattle.rc_ids.specs.Tables.{Table, added, maybe}
+use Rattle.rc_ids.specs.Texts.{same_key}
 use Rattle.rc_body.specs.Bodies.{has_key}
 use Rattle.rc_body.specs.declared.entry.Entry.{Entry}
 use Rattle.rc_locks.specs.declared.cells.Holders.{Holders}
-use Rattle.rc_locks.specs.Cells.{HasRoom, HasRooms, joins, others, leaves}
+use Rattle.rc_locks.specs.Cells.{HasRoom, HasRooms, cell_at, joins, others, leaves}
 use Rattle.rc_locks.specs.Places.{place_where, passes_at}
 use Rattle.rc_locks.proofs.MarkLists.{same_itself, added_again}
 use Rattle.rc_locks.proofs.Rest.{rest_at, rest_end}
 use Rattle.rc_locks.proofs.PlaceFacts.{at_or_below, same_as, added_there, added_insert}
-use Rattle.rc_locks.proofs.IndexFacts.{IsSet, key_same}
+use Rattle.rc_locks.proofs.IndexFacts.{key_same}
 
 -- ONE MORE TRANSACTION IN A LIST, by what the calls say of it
 module _ (xs ys zs : List ℕ) (k : ℕ) (i : ℕ) (b : Bool) (one : ys ≡ xs) (two : zs ≡ xs)
@@ -60,35 +60,35 @@ room_is t i v room is le =
     omega (arith, long, room, v.ok, length-insert v.items i t le)
 
 -- WHAT A CELL'S CHANGE MAKES OF ALL
+-- the key has these holders, and all else is as before
+abbrev pub IsCell : Table (List ℕ) Holders → Table (List ℕ) Holders → List ℕ → Option Holders → Type 0
+IsCell old new key o = (q : List ℕ) → cell_at new q ≡ cond (same_key key q) o (cell_at old q)
+
 module _ (g : Holders → List ℕ) (old new : Table (List ℕ) Holders) (key : List ℕ) where
   abbrev list_at : Table (List ℕ) Holders → List ℕ → List ℕ
-  list_at cells k = maybe (found key_cmp cells k) [] g
+  list_at cells k = maybe (cell_at cells k) [] g
 
-  pub list_set : (cell cell' : Holders) → Some cell ≡ found key_cmp old key → IsSet key_cmp old new key (Some cell') → (f : List ℕ → List ℕ) → g cell' ≡ f (g cell)
+  pub list_set : (cell cell' : Holders) → Some cell ≡ cell_at old key → IsCell old new key (Some cell') → (f : List ℕ → List ℕ) → g cell' ≡ f (g cell)
       → (k : List ℕ) → list_at new k ≡ (if same_key key k then f (list_at old k) else list_at old k)
-  list_set cell cell' there set f is k =
-      ap (λ (o : Option Holders). maybe o [] g) (set k ∙ ap (λ b. cond b (Some cell') (found key_cmp old k)) (sym (texts_ties key k)))
-      ∙ at (same_key key k) refl
+  list_set cell cell' there set f is k = ap (λ (o : Option Holders). maybe o [] g) (set k) ∙ at (same_key key k) refl
     where
-      at : (b : Bool) → same_key key k ≡ b → maybe (cond b (Some cell') (found key_cmp old k)) [] g ≡ (if b then f (list_at old k) else list_at old k)
-      at true same = is ∙ ap f (ap (λ (o : Option Holders). maybe o [] g) (there ∙ ap (found key_cmp old) (key_same key k same)))
+      at : (b : Bool) → same_key key k ≡ b → maybe (cond b (Some cell') (cell_at old k)) [] g ≡ (if b then f (list_at old k) else list_at old k)
+      at true same = is ∙ ap f (ap (λ (o : Option Holders). maybe o [] g) (there ∙ ap (cell_at old) (key_same key k same)))
       at false same = refl
 
   -- an empty list comes or goes
-  pub list_idle : (o : Option Holders) → IsSet key_cmp old new key o → maybe o [] g ≡ [] → list_at old key ≡ [] → (k : List ℕ) → list_at new k ≡ list_at old k
-  list_idle o set empty before k =
-      ap (λ (o : Option Holders). maybe o [] g) (set k ∙ ap (λ b. cond b o (found key_cmp old k)) (sym (texts_ties key k)))
-      ∙ at (same_key key k) refl
+  pub list_idle : (o : Option Holders) → IsCell old new key o → maybe o [] g ≡ [] → list_at old key ≡ [] → (k : List ℕ) → list_at new k ≡ list_at old k
+  list_idle o set empty before k = ap (λ (o : Option Holders). maybe o [] g) (set k) ∙ at (same_key key k) refl
     where
-      at : (b : Bool) → same_key key k ≡ b → maybe (cond b o (found key_cmp old k)) [] g ≡ list_at old k
+      at : (b : Bool) → same_key key k ≡ b → maybe (cond b o (cell_at old k)) [] g ≡ list_at old k
       at true same = empty ∙ sym before ∙ ap (list_at old) (key_same key k same)
       at false same = refl
 
-pub rooms_set : (old new : Table (List ℕ) Holders) (key : List ℕ) (cell : Holders) (t : ℕ) → IsSet key_cmp old new key (Some cell) → HasRooms t (Some cell)
-    → (k : List ℕ) → HasRooms t (found key_cmp old k) → HasRooms t (found key_cmp new k)
-rooms_set old new key cell t set room k had = subst (HasRooms t) (sym (set k)) (at (is_eq (key_cmp key k)))
+pub rooms_set : (old new : Table (List ℕ) Holders) (key : List ℕ) (cell : Holders) (t : ℕ) → IsCell old new key (Some cell) → HasRooms t (Some cell)
+    → (k : List ℕ) → HasRooms t (cell_at old k) → HasRooms t (cell_at new k)
+rooms_set old new key cell t set room k had = subst (HasRooms t) (sym (set k)) (at (same_key key k))
   where
-    at : (b : Bool) → HasRooms t (cond b (Some cell) (found key_cmp old k))
+    at : (b : Bool) → HasRooms t (cond b (Some cell) (cell_at old k))
     at true = room
     at false = had
 

@@ -15,68 +15,38 @@ use Rattle.rc_locks.specs.declared.flags.Lock.{Lock}
 use Rattle.rc_locks.specs.Flags.{is_plain, is_lost, plain_at, lost_at, AreTxs, has_place, same_mark, IsTurned, with_plain, without_plain, taken_away, turned_where, is_other_at, taken_by, given_back, let_go, is_one_of}
 use Rattle.rc_locks.proofs.MarkLists.{mark_exact, from_same}
 
--- the lock of the mark is written, where there is one
-pub set_there : (old new : Table Mark Lock) (k : Mark) (lock held : Lock) → Some held ≡ found mark_cmp old k
-    → ((m : Mark) → found mark_cmp new m ≡ cond (is_at (mark_cmp k) m) (Some lock) (found mark_cmp old m))
-    → (m : Mark) → found mark_cmp new m ≡ (if same_mark k m && has_place old m then Some lock else found mark_cmp old m)
-set_there old new k lock held there written m = written m ∙ at (same_mark k m) refl
-  where
-    at : (b : Bool) → same_mark k m ≡ b → cond b (Some lock) (found mark_cmp old m) ≡ (if b && has_place old m then Some lock else found mark_cmp old m)
-    at true is =
-        let here : has_place old m ≡ true = ap (λ n. has_place old n) (sym (from_same mark_exact k m is)) ∙ ap is_some (sym there) in
-        ap (λ b. if b then Some lock else found mark_cmp old m) (sym here)
-    at false is = refl
-
-pub set_nowhere : (old new : Table Mark Lock) (k : Mark) (lock : Lock) → None ≡ found mark_cmp old k → new ≡ old
-    → (m : Mark) → found mark_cmp new m ≡ (if same_mark k m && has_place old m then Some lock else found mark_cmp old m)
-set_nowhere old new k lock none same m = ap (λ (t : Table Mark Lock). found mark_cmp t m) same ∙ at (same_mark k m) refl
-  where
-    at : (b : Bool) → same_mark k m ≡ b → found mark_cmp old m ≡ (if b && has_place old m then Some lock else found mark_cmp old m)
-    at true is =
-        let here : has_place old m ≡ false = ap (λ n. has_place old n) (sym (from_same mark_exact k m is)) ∙ ap is_some (sym none) in
-        ap (λ b. if b then Some lock else found mark_cmp old m) (sym here)
-    at false is = refl
-
 -- what was found is there
 pub found_is : {X : Type 0} (o : Option X) (x : X) → Some x ≡ o → IsSome o
 found_is o x e = ap is_some (sym e)
 
 -- A LOCK THAT IS TURNED
-pub turned_by_set : (old new : Table Mark Lock) (k : Mark) (lock : Lock) (turn : Lock → Lock)
-    → ((l : Lock) → found mark_cmp old k ≡ Some l → lock ≡ turn l)
-    → ((m : Mark) → found mark_cmp new m ≡ (if same_mark k m && has_place old m then Some lock else found mark_cmp old m))
+pub same_lock : (f : Lock → Lock) → ((l : Lock) → f l ≡ l) → (o : Option Lock) → option_map f o ≡ o
+same_lock f is None = refl
+same_lock f is (Some l) = ap Some (is l)
+
+pub turned_there : (old new : Table Mark Lock) (k : Mark) (held : Lock) (turn : Lock → Lock) → Some held ≡ found mark_cmp old k
+    → ((m : Mark) → found mark_cmp new m ≡ cond (is_at (mark_cmp k) m) (Some (turn held)) (found mark_cmp old m))
     → IsTurned (λ (m : Mark). turned_where (same_mark k m) turn) old new
-turned_by_set old new k lock turn is_turned written m = written m ∙ at (same_mark k m) refl (found mark_cmp old m) refl
+turned_there old new k held turn there written m = written m ∙ at (same_mark k m) refl
   where
-    at : (b : Bool) → same_mark k m ≡ b → (o : Option Lock) → found mark_cmp old m ≡ o
-        → (if b && is_some o then Some lock else o) ≡ option_map (turned_where b turn) o
-    at true is None there = refl
-    at true is (Some l) there = ap Some (is_turned l (ap (found mark_cmp old) (from_same mark_exact k m is) ∙ there))
-    at false is None there = refl
-    at false is (Some l) there = refl
+    at : (b : Bool) → same_mark k m ≡ b → cond b (Some (turn held)) (found mark_cmp old m) ≡ option_map (turned_where b turn) (found mark_cmp old m)
+    at true is = ap (option_map (turned_where true turn)) (there ∙ ap (found mark_cmp old) (from_same mark_exact k m is))
+    at false is = sym (same_lock (turned_where false turn) (λ l. refl) (found mark_cmp old m))
 
-pub as_with_plain : (old : Table Mark Lock) (k : Mark) (b : Bool) → b ≡ lost_at old k
-    → (l : Lock) → found mark_cmp old k ≡ Some l → (let r : Lock = record { plain = true; lost = b } in r) ≡ with_plain l
-as_with_plain old k b lost l there = let r : Bool → Lock = λ c. record { plain = true; lost = c } in ap r (lost ∙ ap is_lost there)
-
-pub as_without_plain : (old : Table Mark Lock) (k : Mark) (b : Bool) → b ≡ lost_at old k
-    → (l : Lock) → found mark_cmp old k ≡ Some l → (let r : Lock = record { plain = false; lost = b } in r) ≡ without_plain l
-as_without_plain old k b lost l there = let r : Bool → Lock = λ c. record { plain = false; lost = c } in ap r (lost ∙ ap is_lost there)
-
-pub as_taken_away : (old : Table Mark Lock) (k : Mark) (p b : Bool) → p ≡ plain_at old k → b ≡ lost_at old k
-    → (l : Lock) → found mark_cmp old k ≡ Some l → (let r : Lock = record { plain = false; lost = b || p } in r) ≡ taken_away l
-as_taken_away old k p b plain lost l there =
-    let r : Bool → Bool → Lock = λ c d. record { plain = false; lost = c || d } in
-    let e = lost ∙ ap is_lost there in let f = plain ∙ ap is_plain there in λ i. r (e i) (f i)
+pub turned_nowhere : (old new : Table Mark Lock) (k : Mark) (turn : Lock → Lock) → None ≡ found mark_cmp old k → new ≡ old
+    → IsTurned (λ (m : Mark). turned_where (same_mark k m) turn) old new
+turned_nowhere old new k turn none same m = ap (λ (t : Table Mark Lock). found mark_cmp t m) same ∙ at (same_mark k m) refl
+  where
+    at : (b : Bool) → same_mark k m ≡ b → found mark_cmp old m ≡ option_map (turned_where b turn) (found mark_cmp old m)
+    at true is =
+        let here : None ≡ found mark_cmp old m = none ∙ ap (found mark_cmp old) (from_same mark_exact k m is) in
+        sym here ∙ ap (option_map (turned_where true turn)) here
+    at false is = sym (same_lock (turned_where false turn) (λ l. refl) (found mark_cmp old m))
 
 -- one turn after another
 pub fused : (f g : Lock → Lock) (o : Option Lock) → option_map f (option_map g o) ≡ option_map (λ l. f (g l)) o
 fused f g None = refl
 fused f g (Some l) = refl
-
-pub same_lock : (f : Lock → Lock) → ((l : Lock) → f l ≡ l) → (o : Option Lock) → option_map f o ≡ o
-same_lock f is None = refl
-same_lock f is (Some l) = ap Some (is l)
 
 pub turned_alike : (f g : Lock → Lock) → ((l : Lock) → f l ≡ g l) → (o : Option Lock) → option_map f o ≡ option_map g o
 turned_alike f g is None = refl

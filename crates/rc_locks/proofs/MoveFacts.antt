@@ -1,5 +1,5 @@
 -- The plain locks and the marks of lost ones, after a lock is turned.
-use Rattle.std.proofs.Common.{◌≡◌, ℕ, zero, suc, ◌+◌, ◌≤◌, Bool, true, false, not, ◌||◌, ◌&&◌, ◌==◌, cond, if◌then◌else◌, List, [], ◌∷◌, filter, drop, Option, Some, None, is_some, Result, Ok, Err, OnErr, refl, sym, ap, ◌∙◌}
+use Rattle.std.proofs.Common.{◌≡◌, ℕ, zero, suc, ◌+◌, ◌≤◌, Bool, true, false, not, ◌||◌, ◌&&◌, ◌==◌, cond, if◌then◌else◌, List, [], ◌∷◌, filter, ◌++◌, drop, Option, Some, None, is_some, Result, Ok, Err, OnOk, OnErr, refl, sym, ap, subst, ◌∙◌}
 use Rattle.std.specs.Ordering.{is_eq}
 use Rattle.std.specs.Option.{option_map}
 use Rattle.std.specs.List.Sorted.{IsStrictlySortedBy}
@@ -7,7 +7,7 @@ use Rattle.std.proofs.lemmas.Cmp.{eq_by_cmp_equiv}
 use Rattle.std.proofs.lemmas.List.Kept.{IsStrictlySortedBy-filter}
 use Rattle.std.proofs.lemmas.Map.Entries.{option_filter}
 use Rattle.rc_ids.specs.Tables.{Table, found, member, added}
-use Rattle.rc_protocol.specs.Shard.{Mark, mark_cmp, cleared, added_all}
+use Rattle.rc_protocol.specs.Shard.{Mark, mark_cmp, is_other, cleared, added_all}
 use Rattle.rc_locks.specs.declared.flags.Lock.{Lock}
 use Rattle.rc_locks.specs.Flags.{is_plain, is_lost, plain_at, lost_at, plain_marks, lost_marks, Rises, AreTxs, has_place, same_mark, IsTurned, with_plain, without_plain, taken_away, turned_where, ArePlaced}
 use Rattle.rc_locks.proofs.MarkLists.{mark_total, mark_exact, from_same, member-added, rises-added, member-filter, member-kept, rises-kept, same_members, rises-added_all, member-added_all}
@@ -193,6 +193,52 @@ pub on_err : {T E Q : Type 0} (r : Result T E) → Q → OnErr r Q
 on_err (Ok x) q = tt
 on_err (Err e) q = q
 
-pub member_left : (ms : List Mark) (i : ℕ) (x m : Mark) → drop i ms ≡ x ∷ drop (i + 1) ms → member mark_cmp (drop (i + 1) ms) m ≡ false → is_eq (mark_cmp m x) ≡ false → member mark_cmp (drop i ms) m ≡ false
-member_left ms i x m at rest other =
-    ap (λ ns. member mark_cmp ns m) at ∙ ap (λ b. b || member mark_cmp (drop (i + 1) ms) m) other ∙ rest
+-- PLACES OF THE READS THAT WAIT
+pub placed_more : (ws : List Mark) (old new : Table Mark Lock) → ArePlaced ws old → ((m : Mark) → has_place old m ≡ true → has_place new m ≡ true) → ArePlaced ws new
+placed_more ws old new placed kept m has = kept m (placed m has)
+
+member_last : (ws : List Mark) (k m : Mark) → member mark_cmp (ws ++ k ∷ []) m ≡ (member mark_cmp ws m || is_eq (mark_cmp m k))
+member_last [] k m = or_none (is_eq (mark_cmp m k))
+  where
+    or_none : (b : Bool) → (b || false) ≡ b
+    or_none true = refl
+    or_none false = refl
+member_last (w ∷ ws) k m = ap (λ b. is_eq (mark_cmp m w) || b) (member_last ws k m) ∙ regrouped (is_eq (mark_cmp m w)) (member mark_cmp ws m) (is_eq (mark_cmp m k))
+  where
+    regrouped : (a b c : Bool) → (a || (b || c)) ≡ ((a || b) || c)
+    regrouped true b c = refl
+    regrouped false b c = refl
+
+pub placed_wait : (ws ws' : List Mark) (k : Mark) (es : Table Mark Lock) → ArePlaced ws es → has_place es k ≡ true
+    → ws' ≡ (if member mark_cmp ws k then ws else ws ++ k ∷ []) → ArePlaced ws' es
+placed_wait ws ws' k es placed there is = subst (λ (xs : List Mark). ArePlaced xs es) (sym is) (at (member mark_cmp ws k))
+  where
+    last : (m : Mark) (a b : Bool) → member mark_cmp ws m ≡ a → is_eq (mark_cmp m k) ≡ b → (a || b) ≡ true → has_place es m ≡ true
+    last m true b has same either = placed m has
+    last m false true has same either = ap (has_place es) (from_same mark_exact m k same) ∙ there
+    last m false false has same either = absurd cc
+
+    at : (b : Bool) → ArePlaced (if b then ws else ws ++ k ∷ []) es
+    at true = placed
+    at false = λ m has. last m (member mark_cmp ws m) (is_eq (mark_cmp m k)) refl refl (sym (member_last ws k m) ∙ has)
+
+pub placed_others : (ws ws' : List Mark) (k : Mark) (old new : Table Mark Lock) → ArePlaced ws old
+    → ((m : Mark) → same_mark k m ≡ false → has_place old m ≡ true → has_place new m ≡ true) → ws' ≡ filter (is_other k) ws → ArePlaced ws' new
+placed_others ws ws' k old new placed kept is m has =
+    at (same_mark k m) refl (sym (member-filter mark_total mark_exact (is_other k) ws m) ∙ ap (λ (xs : List Mark). member mark_cmp xs m) (sym is) ∙ has)
+  where
+    at : (b : Bool) → same_mark k m ≡ b → (not b && member mark_cmp ws m) ≡ true → has_place new m ≡ true
+    at true other had = absurd cc
+    at false other had = kept m other (placed m had)
+
+pub placed_filter : (p : Mark → Bool) (ws ws' : List Mark) (es : Table Mark Lock) → ArePlaced ws es → ws' ≡ filter p ws → ArePlaced ws' es
+placed_filter p ws ws' es placed is m has = at (p m) (sym (member-filter mark_total mark_exact p ws m) ∙ ap (λ (xs : List Mark). member mark_cmp xs m) (sym is) ∙ has)
+  where
+    at : (b : Bool) → (b && member mark_cmp ws m) ≡ true → has_place es m ≡ true
+    at true had = placed m had
+    at false had = absurd cc
+
+pub placed_asked : {T E : Type 0} (r : Result T E) (ws ws' : List Mark) (k : Mark) (es : Table Mark Lock) → ArePlaced ws es → has_place es k ≡ true
+    → OnOk r (ws' ≡ (if member mark_cmp ws k then ws else ws ++ k ∷ [])) → OnErr r (ws' ≡ ws) → ArePlaced ws' es
+placed_asked (Ok x) ws ws' k es placed there ok err = placed_wait ws ws' k es placed there ok
+placed_asked (Err e) ws ws' k es placed there ok err = subst (λ (xs : List Mark). ArePlaced xs es) (sym err) placed

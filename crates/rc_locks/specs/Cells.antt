@@ -4,9 +4,9 @@ use Rattle.std.specs.Global.{Global}
 use Rattle.std.specs.Ordering.{nat_cmp}
 use Rattle.std.specs.List.{slice_get, list_any, list_all}
 use Rattle.std.specs.List.Sorted.{IsStrictlySortedBy}
-use Rattle.std.specs.Map.{keys_of}
-use Rattle.rc_ids.specs.Tables.{Table, found, added, maybe}
-use Rattle.rc_ids.specs.Texts.{key_cmp}
+use Rattle.std.specs.Map.{keys_of, lookup}
+use Rattle.rc_ids.specs.Tables.{Table, added, maybe}
+use Rattle.rc_ids.specs.Texts.{same_key}
 use Rattle.rc_body.specs.Bodies.{has_key, writes}
 use Rattle.rc_body.specs.declared.entry.Entry.{Entry}
 use Rattle.rc_body.specs.declared.reason.Reason.{Reason}
@@ -25,11 +25,15 @@ writers_of parts k = keys_of (filter (λ (p : ℕ × List Entry). writes k p.1) 
 abbrev pub readers_of : Table ℕ (List Entry) → List ℕ → List ℕ
 readers_of parts k = keys_of (filter (λ (p : ℕ × List Entry). has_key k p.1) parts)
 
+-- who holds the key, where anybody does
+abbrev pub cell_at : Table (List ℕ) Holders → List ℕ → Option Holders
+cell_at cells k = lookup (same_key k) cells
+
 abbrev pub writers_at : Table (List ℕ) Holders → List ℕ → List ℕ
-writers_at cells k = maybe (found key_cmp cells k) [] (λ c. c.writers.items)
+writers_at cells k = maybe (cell_at cells k) [] (λ c. c.writers.items)
 
 abbrev pub readers_at : Table (List ℕ) Holders → List ℕ → List ℕ
-readers_at cells k = maybe (found key_cmp cells k) [] (λ c. c.readers.items)
+readers_at cells k = maybe (cell_at cells k) [] (λ c. c.readers.items)
 
 -- the cells are those of the parts
 abbrev pub IsIndexed : Table ℕ (List Entry) → Table (List ℕ) Holders → Type 0
@@ -45,7 +49,7 @@ HasRooms t (Some c) = HasRoom t c.writers × HasRoom t c.readers
 
 -- so do the cells of all keys of the part
 abbrev pub IsRoomFor : ℕ → List Entry → Table (List ℕ) Holders → Type 0
-IsRoomFor t part cells = (k : List ℕ) → has_key k part ≡ true → HasRooms t (found key_cmp cells k)
+IsRoomFor t part cells = (k : List ℕ) → has_key k part ≡ true → HasRooms t (cell_at cells k)
 
 -- a transaction is added for each entry that passes, and taken out for each
 abbrev pub joins : ℕ → (Entry → Bool) → List Entry → List ℕ → List ℕ

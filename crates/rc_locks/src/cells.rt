@@ -1,16 +1,16 @@
 // Who holds each key, by the parts that are prepared.
 ghost use Rattle.std.specs.Prelude.{◌≡◌, ℕ, ◌≤◌, ◌&&◌, List, [], length, true, Some, slice_get, OnOk, IfOk, if◌then◌else◌};
 ghost use Rattle.std.specs.Ordering.{nat_cmp, is_le, is_eq};
-ghost use Rattle.rc_ids.specs.Tables.{found, added};
-ghost use Rattle.rc_ids.specs.Texts.{key_cmp, same_key};
+ghost use Rattle.rc_ids.specs.Tables.{added};
+ghost use Rattle.rc_ids.specs.Texts.{same_key};
 ghost use Rattle.rc_body.specs.Bodies.{has_key, writes};
-ghost use Rattle.rc_locks.specs.Cells.{writers_at, readers_at, HasRoom, HasRooms, IsRoomFor, others};
+ghost use Rattle.rc_locks.specs.Cells.{cell_at, writers_at, readers_at, HasRoom, HasRooms, IsRoomFor, others};
 ghost use Rattle.rc_locks.specs.Places.{place_where, passes_at};
 
 use rc_body::Body;
 use rc_ids::{Key, NoMemory, TxId};
 use std::alloc::Global;
-use std::collections::BTreeMap;
+use std::collections::HashMap;
 
 /// Who holds a key, each rising.
 #[derive(Drop)]
@@ -22,7 +22,7 @@ pub struct Holders {
 }
 
 /// The holders of each key.
-pub type Cells = BTreeMap<Key, Holders>;
+pub type Cells = HashMap<Key, Holders>;
 
 /// The least transaction whose part writes the key.
 pub fn holder(cells: &Cells, key: &Key) -> Option<TxId>
@@ -103,10 +103,10 @@ fn join(cell: &mut Holders, tx: TxId, written: bool)
 
 /// Adds the transaction to the holders of the key, which have room for it.
 fn join_at(cells: &mut Cells, key: &Key, tx: TxId, written: bool)
-    requires { HasRooms tx (found key_cmp cells.old.entries key.now) }
+    requires { HasRooms tx (cell_at cells.old.entries key.now) }
     ensures writers { (k : List ℕ) → writers_at cells.new.entries k ≡ (if same_key key.now k && written then added nat_cmp (writers_at cells.old.entries k) tx else writers_at cells.old.entries k) }
     ensures readers { (k : List ℕ) → readers_at cells.new.entries k ≡ (if same_key key.now k then added nat_cmp (readers_at cells.old.entries k) tx else readers_at cells.old.entries k) }
-    ensures rooms { (k : List ℕ) → HasRooms tx (found key_cmp cells.old.entries k) → HasRooms tx (found key_cmp cells.new.entries k) }
+    ensures rooms { (k : List ℕ) → HasRooms tx (cell_at cells.old.entries k) → HasRooms tx (cell_at cells.new.entries k) }
 {
     if let Some(cell) = cells.get_mut(key) {
         join(cell, tx, written);
@@ -206,8 +206,8 @@ fn idle(alloc: Global) -> Result<Holders, NoMemory>
 fn widen_at(cells: &mut Cells, alloc: Global, key: &Key) -> Result<(), NoMemory>
     ensures writers { (k : List ℕ) → writers_at cells.new.entries k ≡ writers_at cells.old.entries k }
     ensures readers { (k : List ℕ) → readers_at cells.new.entries k ≡ readers_at cells.old.entries k }
-    ensures room { OnOk result ((k : List ℕ) (t : ℕ) → same_key key.now k ≡ true → HasRooms t (found key_cmp cells.new.entries k)) }
-    ensures kept { OnOk result ((k : List ℕ) (t : ℕ) → HasRooms t (found key_cmp cells.old.entries k) → HasRooms t (found key_cmp cells.new.entries k)) }
+    ensures room { OnOk result ((k : List ℕ) (t : ℕ) → same_key key.now k ≡ true → HasRooms t (cell_at cells.new.entries k)) }
+    ensures kept { OnOk result ((k : List ℕ) (t : ℕ) → HasRooms t (cell_at cells.old.entries k) → HasRooms t (cell_at cells.new.entries k)) }
 {
     match cells.get_mut(key) {
         Some(cell) => widen(cell),

@@ -12,7 +12,7 @@ use crate::flags::{LockMap, lock_of};
 use crate::reasons::first_stale;
 use rc_body::{Body, Reason};
 use rc_ids::{Key, TxId};
-use rc_versions::Versions;
+use rc_versions::{HeadedKey, Versions};
 
 /// A transaction that writes the key, or one that has it where it is written, keeps it from being prepared.
 fn reason_of(writer: Option<TxId>, reader: Option<TxId>, key: &Key, written: bool) -> Option<Reason>
@@ -42,7 +42,7 @@ fn lost_key(locks: &LockMap, tx: TxId, key: &Key) -> Option<Reason>
     requires { Rises locks.now.entries }
     ensures { (e : Entry) → e.key ≡ key.now → result ≡ lost_by (lost_marks locks.now.entries) tx e }
 {
-    if lock_of(locks, &(key.copy(), tx)).lost {
+    if lock_of(locks, &(HeadedKey::new(key), tx)).lost {
         return Some(Reason::Lost(key.copy()));
     }
     None

@@ -8,7 +8,8 @@ ghost use Rattle.rc_locks.specs.Flags.{plain_at, lost_at, Rises, AreTxs, has_pla
 
 use crate::marks::Mark;
 use rc_body::Body;
-use rc_ids::{Key, NoMemory, TxId};
+use rc_ids::{NoMemory, TxId};
+use rc_versions::HeadedKey;
 use std::alloc::Global;
 use std::collections::BTreeMap;
 use std::ops::Bound;
@@ -22,14 +23,24 @@ pub struct Lock {
     pub lost: bool,
 }
 
+/// A key with its head, and the transaction.
+pub type Spot = (HeadedKey, TxId);
+
 /// What each transaction has at each key.
-pub type LockMap = BTreeMap<Mark, Lock>;
+pub type LockMap = BTreeMap<Spot, Lock>;
 
 /// For each transaction the keys at which it may have something.
-pub type KeyIndex = BTreeMap<TxId, Vec<Key>>;
+pub type KeyIndex = BTreeMap<TxId, Vec<HeadedKey>>;
+
+/// The mark with the head of its key.
+pub fn spot_of(mark: &Mark) -> Spot
+    ensures { result ≡ mark.now }
+{
+    (HeadedKey::new(&mark.0), mark.1)
+}
 
 /// What the transaction of the mark has at its key.
-pub fn lock_of(locks: &LockMap, mark: &Mark) -> Lock
+pub fn lock_of(locks: &LockMap, mark: &Spot) -> Lock
     ensures plain { result.plain ≡ plain_at locks.now.entries mark.now }
     ensures lost { result.lost ≡ lost_at locks.now.entries mark.now }
 {
@@ -43,52 +54,60 @@ pub fn lock_of(locks: &LockMap, mark: &Mark) -> Lock
 }
 
 /// Whether the mark has a place.
-fn has(locks: &LockMap, mark: &Mark) -> bool
+fn has(locks: &LockMap, mark: &Spot) -> bool
     ensures { result ≡ has_place locks.now.entries mark.now }
 {
     locks.contains_key(mark)
 }
 
-/// Gives the mark this lock in place of the one that it has.
-fn set(locks: &mut LockMap, mark: &Mark, lock: Lock)
-    ensures value { (m : MarkLem) → found mark_cmp locks.new.entries m ≡ (if same_mark mark.now m && has_place locks.old.entries m then Some lock else found mark_cmp locks.old.entries m) }
-    ensures rises { Rises locks.new.entries }
-{
-    if let Some(held) = locks.get_mut(mark) {
-        *held = lock;
-    }
-}
-
 /// Gives the mark a plain lock, where it has a place.
-pub fn grant(locks: &mut LockMap, mark: &Mark)
+pub fn grant(locks: &mut LockMap, mark: &Spot)
     ensures turned { IsTurned (λ m. turned_where (same_mark mark.now m) with_plain) locks.old.entries locks.new.entries }
     ensures rises { Rises locks.new.entries }
 {
-    let lost = lock_of(locks, mark).lost;
-    set(locks, mark, Lock { plain: true, lost });
+    if let Some(held) = locks.get_mut(mark) {
+        *held = Lock {
+            plain: true,
+            lost: held.lost,
+        };
+    }
 }
 
 /// Takes the plain lock of the mark back.
-pub fn unlock(locks: &mut LockMap, mark: &Mark)
+pub fn unlock(locks: &mut LockMap, mark: &Spot)
     ensures turned { IsTurned (λ m. turned_where (same_mark mark.now m) without_plain) locks.old.entries locks.new.entries }
     ensures rises { Rises locks.new.entries }
 {
-    let lost = lock_of(locks, mark).lost;
-    set(locks, mark, Lock { plain: false, lost });
+    if let Some(held) = locks.get_mut(mark) {
+        *held = Lock {
+            plain: false,
+            lost: held.lost,
+        };
+    }
+}
+
+/// The lock once another transaction took it away: a plain one is lost.
+fn taken(lock: Lock) -> Lock
+    ensures { result ≡ taken_away lock }
+{
+    Lock {
+        plain: false,
+        lost: lock.lost || lock.plain,
+    }
 }
 
 /// The plain lock of the mark is lost, where it has one.
-fn take_away(locks: &mut LockMap, mark: &Mark)
+fn take_away(locks: &mut LockMap, mark: &Spot)
     ensures turned { IsTurned (λ m. turned_where (same_mark mark.now m) taken_away) locks.old.entries locks.new.entries }
     ensures rises { Rises locks.new.entries }
 {
-    let lock = lock_of(locks, mark);
-    let lost = lock.lost || lock.plain;
-    set(locks, mark, Lock { plain: false, lost });
+    if let Some(held) = locks.get_mut(mark) {
+        *held = taken(*held);
+    }
 }
 
 /// The first transaction that has a place at the key.
-fn first_at(locks: &LockMap, key: &Key) -> Option<TxId>
+fn first_at(locks: &LockMap, key: &HeadedKey) -> Option<TxId>
     requires { AreTxs locks.now.entries }
     ensures { (t : ℕ) → is_before result t ≡ true → has_place locks.now.entries (key.now, t) ≡ false }
 {
@@ -102,7 +121,7 @@ fn first_at(locks: &LockMap, key: &Key) -> Option<TxId>
 }
 
 /// The next transaction that has a place at the key.
-fn next_at(locks: &LockMap, key: &Key, last: TxId) -> Option<TxId>
+fn next_at(locks: &LockMap, key: &HeadedKey, last: TxId) -> Option<TxId>
     ensures above { IfSome result (λ t. last < t) }
     ensures none { (t : ℕ) → last < t → is_before result t ≡ true → has_place locks.now.entries (key.now, t) ≡ false }
 {
@@ -117,7 +136,7 @@ fn next_at(locks: &LockMap, key: &Key, last: TxId) -> Option<TxId>
 }
 
 /// Takes the plain lock of the transaction at the key away for another transaction.
-fn take_other(locks: &mut LockMap, key: &Key, tx: TxId, taker: TxId)
+fn take_other(locks: &mut LockMap, key: &HeadedKey, tx: TxId, taker: TxId)
     requires { Rises locks.old.entries }
     ensures turned { IsTurned (λ m. turned_where (same_mark (key.now, tx) m && not (tx == taker)) taken_away) locks.old.entries locks.new.entries }
     ensures rises { Rises locks.new.entries }
@@ -128,7 +147,7 @@ fn take_other(locks: &mut LockMap, key: &Key, tx: TxId, taker: TxId)
 }
 
 /// Takes the plain locks of all others at the key away.
-fn take_key(locks: &mut LockMap, key: &Key, taker: TxId)
+fn take_key(locks: &mut LockMap, key: &HeadedKey, taker: TxId)
     requires rises { Rises locks.old.entries }
     requires txs { AreTxs locks.old.entries }
     ensures turned { IsTurned (λ m. turned_where (is_other_at key.now taker m) taken_away) locks.old.entries locks.new.entries }
@@ -142,7 +161,7 @@ fn take_key(locks: &mut LockMap, key: &Key, taker: TxId)
 }
 
 /// Takes the plain locks of all others at the key away, if it is written.
-fn take_written(locks: &mut LockMap, key: &Key, written: bool, taker: TxId)
+fn take_written(locks: &mut LockMap, key: &HeadedKey, written: bool, taker: TxId)
     requires rises { Rises locks.old.entries }
     requires txs { AreTxs locks.old.entries }
     ensures turned { IsTurned (λ m. turned_where (written && is_other_at key.now taker m) taken_away) locks.old.entries locks.new.entries }
@@ -162,12 +181,13 @@ pub fn take_part(locks: &mut LockMap, taker: TxId, part: &Body)
 {
     for index in 0..part.len() {
         let entry = part.entry(index);
-        take_written(locks, entry.key, entry.write.is_some(), taker);
+        let key = HeadedKey::new(entry.key);
+        take_written(locks, &key, entry.write.is_some(), taker);
     }
 }
 
 /// Takes the plain locks of the transaction at these keys back.
-fn unlock_all(locks: &mut LockMap, keys: &[Key], tx: TxId)
+fn unlock_all(locks: &mut LockMap, keys: &[HeadedKey], tx: TxId)
     requires { Rises locks.old.entries }
     ensures turned { IsTurned (λ m. turned_where (is_one_of tx keys.now m) without_plain) locks.old.entries locks.new.entries }
     ensures rises { Rises locks.new.entries }
@@ -178,7 +198,7 @@ fn unlock_all(locks: &mut LockMap, keys: &[Key], tx: TxId)
 }
 
 /// Takes what the transaction has at these keys out of the table.
-fn remove_all(locks: &mut LockMap, keys: &[Key], tx: TxId)
+fn remove_all(locks: &mut LockMap, keys: &[HeadedKey], tx: TxId)
     requires { Rises locks.old.entries }
     ensures left { (m : MarkLem) → found mark_cmp locks.new.entries m ≡ (if is_one_of tx keys.now m then None else found mark_cmp locks.old.entries m) }
     ensures rises { Rises locks.new.entries }
@@ -214,7 +234,7 @@ pub fn forget(locks: &mut LockMap, index: &mut KeyIndex, tx: TxId)
 }
 
 /// Adds the key at the end, or leaves all as before.
-fn push_key(keys: &mut Vec<Key>, key: &Key) -> Result<(), NoMemory>
+fn push_key(keys: &mut Vec<HeadedKey>, key: &HeadedKey) -> Result<(), NoMemory>
     ensures there { OnOk result (member key_cmp keys.new.items key.now ≡ true) }
     ensures kept { (k : List ℕ) → member key_cmp keys.old.items k ≡ true → member key_cmp keys.new.items k ≡ true }
 {
@@ -223,7 +243,7 @@ fn push_key(keys: &mut Vec<Key>, key: &Key) -> Result<(), NoMemory>
 }
 
 /// The one key.
-fn one_key(alloc: Global, key: &Key) -> Result<Vec<Key>, NoMemory>
+fn one_key(alloc: Global, key: &HeadedKey) -> Result<Vec<HeadedKey>, NoMemory>
     ensures { IfOk result (λ keys. keys.items ≡ key.now ∷ []) }
 {
     let mut keys = Vec::new(alloc);
@@ -232,7 +252,7 @@ fn one_key(alloc: Global, key: &Key) -> Result<Vec<Key>, NoMemory>
 }
 
 /// Notes that the transaction of the mark may have something at its key.
-fn note(index: &mut KeyIndex, alloc: Global, mark: &Mark) -> Result<(), NoMemory>
+fn note(index: &mut KeyIndex, alloc: Global, mark: &Spot) -> Result<(), NoMemory>
     ensures there { OnOk result (has_key_at index.new.entries mark.now ≡ true) }
     ensures kept { (m : MarkLem) → has_key_at index.old.entries m ≡ true → has_key_at index.new.entries m ≡ true }
 {
@@ -251,7 +271,7 @@ pub fn make_place(
     locks: &mut LockMap,
     index: &mut KeyIndex,
     alloc: Global,
-    mark: &Mark,
+    mark: &Spot,
 ) -> Result<(), NoMemory>
     requires rises { Rises locks.old.entries }
     requires txs { AreTxs locks.old.entries }
@@ -281,7 +301,7 @@ pub fn make_place(
 }
 
 /// Takes the key of the mark away from its transaction's.
-fn strike(index: &mut KeyIndex, mark: &Mark)
+fn strike(index: &mut KeyIndex, mark: &Spot)
     ensures { (m : MarkLem) → same_mark mark.now m ≡ false → has_key_at index.old.entries m ≡ true → has_key_at index.new.entries m ≡ true }
 {
     if let Some(keys) = index.get_mut(&mark.1) {
@@ -290,7 +310,7 @@ fn strike(index: &mut KeyIndex, mark: &Mark)
 }
 
 /// Takes the key out.
-fn drop_key(keys: &mut Vec<Key>, key: &Key)
+fn drop_key(keys: &mut Vec<HeadedKey>, key: &HeadedKey)
     ensures { (k : List ℕ) → is_eq (key_cmp key.now k) ≡ false → member key_cmp keys.old.items k ≡ true → member key_cmp keys.new.items k ≡ true }
 {
     keys.retain(|other| key.cmp(other).is_ne());
@@ -316,10 +336,11 @@ fn drop_bare(index: &mut KeyIndex, tx: TxId)
 }
 
 /// Takes the place of the mark away, if it has no plain lock and lost none.
-pub fn drop_idle(locks: &mut LockMap, index: &mut KeyIndex, mark: &Mark)
+pub fn drop_idle(locks: &mut LockMap, index: &mut KeyIndex, mark: &Spot)
     requires rises { Rises locks.old.entries }
     requires txs { AreTxs locks.old.entries }
     requires covered { IsCovered locks.old.entries index.old.entries }
+    ensures kept { (m : MarkLem) → same_mark mark.now m ≡ false → has_place locks.old.entries m ≡ true → has_place locks.new.entries m ≡ true }
     ensures plain { (m : MarkLem) → plain_at locks.new.entries m ≡ plain_at locks.old.entries m }
     ensures lost { (m : MarkLem) → lost_at locks.new.entries m ≡ lost_at locks.old.entries m }
     ensures rises { Rises locks.new.entries }

@@ -10,15 +10,15 @@ ghost use Rattle.rc_locks.specs.Flags.{lost_at, plain_marks, lost_marks, Rises, 
 
 use crate::cells::{self, Cells};
 use crate::checks::refusal;
-use crate::flags::{KeyIndex, LockMap, lock_of};
+use crate::flags::{KeyIndex, LockMap, Spot, lock_of};
 use crate::marks::{self, Mark};
 use crate::parts::Prepared;
 use crate::{Answer, Asked, Freed, LockTable, frees, halves, moves};
 use rc_body::{Body, Parts};
 use rc_ids::{Key, NoMemory, TxId};
-use rc_versions::Versions;
+use rc_versions::{HeadedKey, Versions};
 use std::alloc::Global;
-use std::collections::BTreeMap;
+use std::collections::{BTreeMap, HashMap};
 use std::mem;
 
 /// Locks by key and by transaction, so that a call looks at the keys of its part and at nothing else but the reads that wait.
@@ -30,7 +30,7 @@ pub struct Locks {
     // The plain locks and the marks of lost ones, and the keys of each transaction.
     marks: LockMap,
     index: KeyIndex,
-    // The reads that wait, in order of arrival.
+    // The reads that wait, in order of arrival; each has a place among the marks.
     waiting: Vec<Mark>,
     // Where a finish puts the reads that it grants.
     freed: Vec<Mark>,
@@ -39,10 +39,11 @@ pub struct Locks {
     ghost rises: { Rises marks.entries } by { IsStrictlySortedBy-prop mark_cmp (keys_of marks.entries) },
     ghost txs: { AreTxs marks.entries },
     ghost covered: { IsCovered marks.entries index.entries },
+    ghost placed: { ArePlaced waiting.items marks.entries },
 }
 
 /// Whether the transaction of the mark is prepared, or lost its lock on the key.
-fn ignores(parts: &[Prepared], marks: &LockMap, mark: &Mark) -> bool
+fn ignores(parts: &[Prepared], marks: &LockMap, mark: &Spot) -> bool
     requires { IsRising parts.now }
     ensures { result ≡ (is_some (found nat_cmp parts.now mark.now.1) || lost_at marks.now.entries mark.now) }
 {
@@ -54,12 +55,12 @@ impl LockTable for Locks {
 
     ghost has_room = { λ l tx part. (vec_len l.parts < vec_capacity l.parts) × IsRoomFor tx part l.cells.entries };
 
-    ghost has_finish_room = { λ l txs. (l.freed.items ≡ []) × (vec_len l.freed + vec_len l.waiting ≤ vec_capacity l.freed) × ArePlaced l.waiting.items l.marks.entries };
+    ghost has_finish_room = { λ l txs. (l.freed.items ≡ []) × (vec_len l.freed + vec_len l.waiting ≤ vec_capacity l.freed) };
 
     fn new(alloc: Global) -> Locks {
         Locks {
             parts: Vec::new(alloc),
-            cells: BTreeMap::new(alloc),
+            cells: HashMap::new(alloc),
             marks: BTreeMap::new(alloc),
             index: BTreeMap::new(alloc),
             waiting: Vec::new(alloc),
@@ -69,7 +70,7 @@ impl LockTable for Locks {
 
     fn restore(alloc: Global, parts: Parts) -> Result<Locks, NoMemory> {
         let mut table = Vec::new(alloc);
-        let mut cells = BTreeMap::new(alloc);
+        let mut cells = HashMap::new(alloc);
         halves::insert_all(&mut table, &mut cells, alloc, parts.into_entries())?;
         Ok(Locks {
             parts: table,
@@ -83,33 +84,34 @@ impl LockTable for Locks {
 
     fn ask(&mut self, tx: TxId, key: &Key) -> Result<Asked, NoMemory> {
         let said = self.would_ask(tx, key);
-        let mark = (key.copy(), tx);
+        let alloc = *self.freed.allocator();
+        let spot = (HeadedKey::new(key), tx);
         match said {
-            Asked::Granted => {
-                let alloc = *self.freed.allocator();
-                moves::lock(&mut self.marks, &mut self.index, alloc, &mark)?
+            Asked::Granted => moves::lock(&mut self.marks, &mut self.index, alloc, &spot)?,
+            Asked::Waits => {
+                moves::place(&mut self.marks, &mut self.index, alloc, &spot)?;
+                marks::wait(&mut self.waiting, (key.copy(), tx))?
             }
-            Asked::Waits => marks::wait(&mut self.waiting, mark)?,
             Asked::Ignored => {}
         }
         Ok(said)
     }
 
     fn would_ask(&self, tx: TxId, key: &Key) -> Asked {
-        let mark = (key.copy(), tx);
-        if ignores(&self.parts, &self.marks, &mark) {
+        let spot = (HeadedKey::new(key), tx);
+        if ignores(&self.parts, &self.marks, &spot) {
             return Asked::Ignored;
         }
-        if frees::is_free(&self.cells, &mark) {
+        if cells::holder(&self.cells, key).is_none() {
             return Asked::Granted;
         }
         Asked::Waits
     }
 
     fn cancel(&mut self, tx: TxId, key: &Key) {
-        let mark = (key.copy(), tx);
-        moves::unlock(&mut self.marks, &mut self.index, &mark);
-        marks::remove(&mut self.waiting, &mark);
+        let spot = (HeadedKey::new(key), tx);
+        moves::unlock(&mut self.marks, &mut self.index, &spot);
+        marks::remove(&mut self.waiting, &(key.copy(), tx));
     }
 
     fn test(&self, tx: TxId, part: &Body, at: &Versions) -> Answer {
@@ -133,10 +135,8 @@ impl LockTable for Locks {
     }
 
     fn room_finish(&mut self, _txs: &[TxId]) -> Result<(), NoMemory> {
-        let alloc = *self.freed.allocator();
         self.freed.clear();
         self.freed.reserve(self.waiting.len())?;
-        moves::place_all(&mut self.marks, &mut self.index, alloc, &self.waiting)?;
         Ok(())
     }
 

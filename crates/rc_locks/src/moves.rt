@@ -1,11 +1,11 @@
 // Plain locks and marks of lost ones, as they come and go.
-ghost use Rattle.std.specs.Prelude.{◌≡◌, ◌≤◌, OnOk, OnErr, filter, not, vec_len};
+ghost use Rattle.std.specs.Prelude.{◌≡◌, ◌≤◌, true, false, OnOk, OnErr, filter, not, vec_len};
 ghost use Rattle.rc_ids.specs.Tables.{added};
 ghost use Rattle.rc_protocol.specs.Shard.{Mark as MarkLem, mark_cmp, is_other, is_taken, cleared, added_all};
-ghost use Rattle.rc_locks.specs.Flags.{plain_marks, lost_marks, Rises, AreTxs, has_place, IsCovered, ArePlaced};
+ghost use Rattle.rc_locks.specs.Flags.{plain_marks, lost_marks, Rises, AreTxs, has_place, same_mark, IsCovered, ArePlaced};
 ghost use Rattle.rc_locks.specs.LockSets.{cleared_all};
 
-use crate::flags::{self, KeyIndex, LockMap};
+use crate::flags::{self, KeyIndex, LockMap, Spot};
 use crate::marks::{self, Mark};
 use rc_body::Body;
 use rc_ids::{NoMemory, TxId};
@@ -16,7 +16,7 @@ pub fn lock(
     locks: &mut LockMap,
     index: &mut KeyIndex,
     alloc: Global,
-    mark: &Mark,
+    mark: &Spot,
 ) -> Result<(), NoMemory>
     requires rises { Rises locks.old.entries }
     requires txs { AreTxs locks.old.entries }
@@ -24,6 +24,7 @@ pub fn lock(
     ensures ok { OnOk result (plain_marks locks.new.entries ≡ added mark_cmp (plain_marks locks.old.entries) mark.now) }
     ensures err { OnErr result (plain_marks locks.new.entries ≡ plain_marks locks.old.entries) }
     ensures lost { lost_marks locks.new.entries ≡ lost_marks locks.old.entries }
+    ensures kept { (m : MarkLem) → has_place locks.old.entries m ≡ true → has_place locks.new.entries m ≡ true }
     ensures rises { Rises locks.new.entries }
     ensures txs { AreTxs locks.new.entries }
     ensures covered { IsCovered locks.new.entries index.new.entries }
@@ -33,12 +34,34 @@ pub fn lock(
     Ok(())
 }
 
+/// Gives the mark a place, which means nothing yet.
+pub fn place(
+    locks: &mut LockMap,
+    index: &mut KeyIndex,
+    alloc: Global,
+    mark: &Spot,
+) -> Result<(), NoMemory>
+    requires rises { Rises locks.old.entries }
+    requires txs { AreTxs locks.old.entries }
+    requires covered { IsCovered locks.old.entries index.old.entries }
+    ensures there { OnOk result (has_place locks.new.entries mark.now ≡ true) }
+    ensures kept { (m : MarkLem) → has_place locks.old.entries m ≡ true → has_place locks.new.entries m ≡ true }
+    ensures plain { plain_marks locks.new.entries ≡ plain_marks locks.old.entries }
+    ensures lost { lost_marks locks.new.entries ≡ lost_marks locks.old.entries }
+    ensures rises { Rises locks.new.entries }
+    ensures txs { AreTxs locks.new.entries }
+    ensures covered { IsCovered locks.new.entries index.new.entries }
+{
+    flags::make_place(locks, index, alloc, mark)
+}
+
 /// Takes a plain lock back.
-pub fn unlock(locks: &mut LockMap, index: &mut KeyIndex, mark: &Mark)
+pub fn unlock(locks: &mut LockMap, index: &mut KeyIndex, mark: &Spot)
     requires rises { Rises locks.old.entries }
     requires txs { AreTxs locks.old.entries }
     requires covered { IsCovered locks.old.entries index.old.entries }
     ensures plain { plain_marks locks.new.entries ≡ filter (is_other mark.now) (plain_marks locks.old.entries) }
+    ensures kept { (m : MarkLem) → same_mark mark.now m ≡ false → has_place locks.old.entries m ≡ true → has_place locks.new.entries m ≡ true }
     ensures lost { lost_marks locks.new.entries ≡ lost_marks locks.old.entries }
     ensures rises { Rises locks.new.entries }
     ensures txs { AreTxs locks.new.entries }
@@ -55,6 +78,7 @@ pub fn preempt(locks: &mut LockMap, index: &KeyIndex, tx: TxId, part: &Body)
     requires covered { IsCovered locks.old.entries index.now.entries }
     ensures plain { plain_marks locks.new.entries ≡ cleared (filter (λ (m : MarkLem). not (is_taken tx part.now m)) (plain_marks locks.old.entries)) tx }
     ensures lost { lost_marks locks.new.entries ≡ added_all (lost_marks locks.old.entries) (filter (is_taken tx part.now) (plain_marks locks.old.entries)) }
+    ensures places { (m : MarkLem) → has_place locks.new.entries m ≡ has_place locks.old.entries m }
     ensures rises { Rises locks.new.entries }
     ensures txs { AreTxs locks.new.entries }
     ensures covered { IsCovered locks.new.entries index.now.entries }
@@ -114,29 +138,6 @@ pub fn grant_all(locks: &mut LockMap, granted: &[Mark])
     ensures places { (m : MarkLem) → has_place locks.new.entries m ≡ has_place locks.old.entries m }
 {
     for mark in granted {
-        flags::grant(locks, mark);
+        flags::grant(locks, &flags::spot_of(mark));
     }
-}
-
-/// Gives each of the marks a place.
-pub fn place_all(
-    locks: &mut LockMap,
-    index: &mut KeyIndex,
-    alloc: Global,
-    marks: &[Mark],
-) -> Result<(), NoMemory>
-    requires rises { Rises locks.old.entries }
-    requires txs { AreTxs locks.old.entries }
-    requires covered { IsCovered locks.old.entries index.old.entries }
-    ensures placed { OnOk result (ArePlaced marks.now locks.new.entries) }
-    ensures plain { plain_marks locks.new.entries ≡ plain_marks locks.old.entries }
-    ensures lost { lost_marks locks.new.entries ≡ lost_marks locks.old.entries }
-    ensures rises { Rises locks.new.entries }
-    ensures txs { AreTxs locks.new.entries }
-    ensures covered { IsCovered locks.new.entries index.new.entries }
-{
-    for mark in marks {
-        flags::make_place(locks, index, alloc, mark)?;
-    }
-    Ok(())
 }

@@ -1,2 +1,3 @@
+mod HeadFacts
 mod PageFacts
 mod RowFacts

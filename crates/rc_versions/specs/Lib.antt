@@ -1,3 +1,4 @@
 -- What the contracts of this crate cite.
+pub mod Heads
 pub mod Pages
 pub mod Rows

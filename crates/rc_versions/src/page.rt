@@ -7,8 +7,9 @@ ghost use Rattle.rc_record.specs.ShardState.{version_at};
 ghost use Rattle.rc_versions.specs.Rows.{Rises, newest};
 ghost use Rattle.rc_versions.specs.Pages.{starts_by as starts_by_lem};
 
+use crate::HeadedKey;
 use crate::places::{Row, count_below, insert_at, raise_at, row_of};
-use rc_ids::{Key, NoMemory, Val, Version};
+use rc_ids::{NoMemory, Val, Version};
 use std::alloc::Global;
 use std::marker::Model;
 
@@ -70,7 +71,7 @@ impl Page {
     }
 
     /// Whether the first row's key is this one or below it.
-    pub fn starts_by(&self, key: &Key) -> bool
+    pub fn starts_by(&self, key: &HeadedKey) -> bool
         ensures { result ≡ starts_by_lem key.now self.now }
     {
         match self.rows.first() {
@@ -88,7 +89,7 @@ impl Page {
     }
 
     /// The version and the value of the key, where it is there.
-    pub fn get(&self, key: &Key) -> Option<&(Version, Val)>
+    pub fn get(&self, key: &HeadedKey) -> Option<&(Version, Val)>
         requires { Rises self.now }
         ensures { option_copied result ≡ found key_cmp self.now key.now }
     {
@@ -96,7 +97,7 @@ impl Page {
     }
 
     /// Gives the key, which is there, the version and the value, if its version there is lower, and says so.
-    pub fn raise(&mut self, key: &Key, version: Version, val: Val) -> bool
+    pub fn raise(&mut self, key: &HeadedKey, version: Version, val: Val) -> bool
         requires rises { Rises self.old }
         requires there { is_some (found key_cmp self.old key.now) ≡ true }
         ensures said { result ≡ nat_lt (version_at self.old key.now) version }
@@ -107,7 +108,7 @@ impl Page {
     }
 
     /// Puts the key, which is not there, in its place. There is room.
-    pub fn insert(&mut self, key: &Key, version: Version, val: Val)
+    pub fn insert(&mut self, key: &HeadedKey, version: Version, val: Val)
         requires room { length self.old < 64 }
         requires rises { Rises self.old }
         requires absent { is_some (found key_cmp self.old key.now) ≡ false }
@@ -134,7 +135,7 @@ impl Page {
 
     /// Puts the key, which is not there, in its place among the rows, which are as many as can be. The upper ones are in the other
     /// page then, which is empty before.
-    pub fn insert_split(&mut self, upper: Page, key: &Key, version: Version, val: Val) -> Page
+    pub fn insert_split(&mut self, upper: Page, key: &HeadedKey, version: Version, val: Val) -> Page
         requires full { length self.old ≡ 64 }
         requires empty { upper ≡ [] }
         requires rises { Rises self.old }

@@ -7,12 +7,13 @@ ghost use Rattle.rc_record.specs.ShardState.{version_at};
 ghost use Rattle.rc_versions.specs.Rows.{newest};
 ghost use Rattle.rc_versions.specs.Pages.{all_rows, IsPaged, IsPageOf, reach};
 
+use crate::HeadedKey;
 use crate::page::Page;
 use crate::spares::Spares;
-use rc_ids::{Key, NoMemory, Val, Version};
+use rc_ids::{NoMemory, Val, Version};
 
 /// How many pages begin at this key or below it.
-pub fn count_up_to(pages: &[Page], key: &Key) -> usize
+pub fn count_up_to(pages: &[Page], key: &HeadedKey) -> usize
     requires { IsPaged pages.now }
     ensures count { result ≡ reach key.now pages.now }
     ensures few { result ≤ length pages.now }
@@ -21,7 +22,7 @@ pub fn count_up_to(pages: &[Page], key: &Key) -> usize
 }
 
 /// The place of the page where the key stands or belongs; 0 where there is no page.
-pub fn page_of(pages: &[Page], key: &Key) -> usize
+pub fn page_of(pages: &[Page], key: &HeadedKey) -> usize
     requires { IsPaged pages.now }
     ensures { IsPageOf key.now pages.now result }
 {
@@ -29,7 +30,7 @@ pub fn page_of(pages: &[Page], key: &Key) -> usize
 }
 
 /// The version and the value of the key, where it is there.
-pub fn row_at<'a>(pages: &'a [Page], at: usize, key: &Key) -> Option<&'a (Version, Val)>
+pub fn row_at<'a>(pages: &'a [Page], at: usize, key: &HeadedKey) -> Option<&'a (Version, Val)>
     requires paged { IsPaged pages.now }
     requires page { IsPageOf key.now pages.now at }
     ensures { option_copied result ≡ found key_cmp (all_rows pages.now) key.now }
@@ -50,7 +51,7 @@ pub fn is_open(pages: &[Page], at: usize) -> bool
 }
 
 /// Gives the key, which is there, the version and the value, if its version there is lower, and says so.
-pub fn raise_in(pages: &mut [Page], at: usize, key: &Key, version: Version, val: Val) -> bool
+pub fn raise_in(pages: &mut [Page], at: usize, key: &HeadedKey, version: Version, val: Val) -> bool
     requires paged { IsPaged pages.old }
     requires page { IsPageOf key.now pages.old at }
     requires there { is_some (found key_cmp (all_rows pages.old) key.now) ≡ true }
@@ -62,7 +63,7 @@ pub fn raise_in(pages: &mut [Page], at: usize, key: &Key, version: Version, val:
 }
 
 /// Puts the key, which is not there, in its place in its page, which takes a row more.
-pub fn insert_in(pages: &mut [Page], at: usize, key: &Key, version: Version, val: Val)
+pub fn insert_in(pages: &mut [Page], at: usize, key: &HeadedKey, version: Version, val: Val)
     requires paged { IsPaged pages.old }
     requires page { IsPageOf key.now pages.old at }
     requires there { at < length pages.old }
@@ -81,7 +82,7 @@ pub fn insert_with(
     pages: &mut Vec<Page>,
     at: usize,
     page: Page,
-    key: &Key,
+    key: &HeadedKey,
     version: Version,
     val: Val,
 )

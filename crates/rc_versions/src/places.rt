@@ -6,13 +6,14 @@ ghost use Rattle.rc_ids.specs.Texts.{key_cmp};
 ghost use Rattle.rc_record.specs.ShardState.{version_at};
 ghost use Rattle.rc_versions.specs.Rows.{Rises, rank, held, newest};
 
-use rc_ids::{Key, Val, Version};
+use crate::HeadedKey;
+use rc_ids::{Val, Version};
 
 /// A key with its version and its value.
-pub type Row = (Key, (Version, Val));
+pub type Row = (HeadedKey, (Version, Val));
 
 /// How many rows have keys below this one.
-pub fn count_below(rows: &[Row], key: &Key) -> usize
+pub fn count_below(rows: &[Row], key: &HeadedKey) -> usize
     requires { Rises rows.now }
     ensures count { result ≡ rank key.now rows.now }
     ensures few { result ≤ length rows.now }
@@ -21,14 +22,14 @@ pub fn count_below(rows: &[Row], key: &Key) -> usize
 }
 
 /// Whether the row at the place has the key.
-pub fn has_at(rows: &[Row], place: usize, key: &Key) -> bool
+pub fn has_at(rows: &[Row], place: usize, key: &HeadedKey) -> bool
     ensures { result ≡ is_some (held key.now (slice_get rows.now place)) }
 {
     place < rows.len() && rows[place].0 == *key
 }
 
 /// The version and the value of the key, where it is there.
-pub fn row_of<'a>(rows: &'a [Row], key: &Key) -> Option<&'a (Version, Val)>
+pub fn row_of<'a>(rows: &'a [Row], key: &HeadedKey) -> Option<&'a (Version, Val)>
     requires { Rises rows.now }
     ensures { option_copied result ≡ found key_cmp rows.now key.now }
 {
@@ -40,7 +41,7 @@ pub fn row_of<'a>(rows: &'a [Row], key: &Key) -> Option<&'a (Version, Val)>
 }
 
 /// Gives the key, which stands at this place, the version and the value, if its version there is lower, and says so.
-pub fn raise_at(rows: &mut [Row], place: usize, key: &Key, version: Version, val: Val) -> bool
+pub fn raise_at(rows: &mut [Row], place: usize, key: &HeadedKey, version: Version, val: Val) -> bool
     requires rises { Rises rows.old }
     requires place { place ≡ rank key.now rows.old }
     requires there { is_some (held key.now (slice_get rows.old place)) ≡ true }
@@ -57,7 +58,7 @@ pub fn raise_at(rows: &mut [Row], place: usize, key: &Key, version: Version, val
 }
 
 /// Puts the key, which is not there, in its place. There is room.
-pub fn insert_at(rows: &mut Vec<Row>, place: usize, key: &Key, version: Version, val: Val)
+pub fn insert_at(rows: &mut Vec<Row>, place: usize, key: &HeadedKey, version: Version, val: Val)
     requires room { vec_len rows.old < vec_capacity rows.old }
     requires rises { Rises rows.old.items }
     requires place { place ≡ rank key.now rows.old.items }

@@ -63,6 +63,6 @@ impl<'a> Iterator for Rows<'a> {
         let (first, others, pages) = first_row(self.rows, self.pages)?;
         self.rows = others;
         self.pages = pages;
-        Some((&first.0, first.1.0, &first.1.1))
+        Some((first.0.key(), first.1.0, &first.1.1))
     }
 }

@@ -6,10 +6,10 @@ ghost use Rattle.rc_ids.specs.Texts.{key_cmp};
 ghost use Rattle.rc_record.specs.ShardState.{version_at, value_at};
 ghost use Rattle.rc_versions.specs.Rows.{newest};
 
-use crate::Rows;
 use crate::page::Page;
 use crate::pages::{insert_in, insert_with, is_open, page_of, raise_in, row_at, spare_page};
 use crate::spares::Spares;
+use crate::{HeadedKey, Rows};
 use rc_ids::{Key, NoMemory, Val, Version};
 use std::alloc::Global;
 use std::marker::Model;
@@ -51,8 +51,9 @@ impl Versions {
         ensures version { result.0 ≡ version_at self.now.rows key.now }
         ensures value { option_copied result.1 ≡ value_at self.now.rows key.now }
     {
-        let at = page_of(&self.pages, key);
-        match row_at(&self.pages, at, key) {
+        let key = HeadedKey::new(key);
+        let at = page_of(&self.pages, &key);
+        match row_at(&self.pages, at, &key) {
             Some(row) => (row.0, Some(&row.1)),
             None => (Version(0), None),
         }
@@ -81,20 +82,21 @@ impl Versions {
         ensures full { OnErr result (self.old.spare ≡ 0) }
         ensures absent { OnErr result (found key_cmp self.old.rows key.now ≡ None) }
     {
-        let at = page_of(&self.pages, key);
-        if row_at(&self.pages, at, key).is_some() {
-            return Ok(raise_in(&mut self.pages, at, key, version, val));
+        let key = HeadedKey::new(key);
+        let at = page_of(&self.pages, &key);
+        if row_at(&self.pages, at, &key).is_some() {
+            return Ok(raise_in(&mut self.pages, at, &key, version, val));
         }
         if version == Version(0) {
             return Ok(false);
         }
         if is_open(&self.pages, at) {
-            insert_in(&mut self.pages, at, key, version, val);
+            insert_in(&mut self.pages, at, &key, version, val);
             return Ok(true);
         }
         let page = spare_page(&mut self.pages, &mut self.spares)?;
         self.spare = self.spare.saturating_sub(1);
-        insert_with(&mut self.pages, at, page, key, version, val);
+        insert_with(&mut self.pages, at, page, &key, version, val);
         Ok(true)
     }
 

@@ -1,10 +1,9 @@
 use Rattle.std.proofs.Common.{ap, ◌∙◌, arith}
-use Rattle.rc_ids.specs.Tables.{found}
-use Rattle.rc_ids.specs.Texts.{key_cmp, same_key}
+use Rattle.rc_ids.specs.Texts.{same_key}
 use Rattle.rc_body.specs.Bodies.{has_key}
 use Rattle.rc_body.specs.Entries.{seen}
 use Rattle.rc_body.specs.declared.entry.Entry.{Entry}
-use Rattle.rc_locks.specs.Cells.{HasRooms}
+use Rattle.rc_locks.specs.Cells.{cell_at, HasRooms}
 use Rattle.rc_locks.proofs.Rest.{rest_end}
 use Rattle.rc_locks.proofs.CellFacts.{either_way, lacks_next}
 use Rattle.rc_locks.proofs.cells.make_room.Goals as goal
@@ -14,7 +13,7 @@ loop-index-preserved c =
     let e : Entry = seen c.entry-entry.result in (
       λ k. c.widen_at.ensures.writers k ∙ c.loop-index.invariant.0 k,
       λ k. c.widen_at.ensures.readers k ∙ c.loop-index.invariant.1 k,
-      λ k t has rest. either_way (HasRooms t (found key_cmp c.widen_at.new.cells.entries k)) (same_key e.key k)
+      λ k t has rest. either_way (HasRooms t (cell_at c.widen_at.new.cells.entries k)) (same_key e.key k)
           (λ same. c.in_ok-widen_at.ensures.room k t same)
           (λ other. c.in_ok-widen_at.ensures.kept k t
           (c.loop-index.invariant.2 k t has (lacks_next c.args.part.now c.loop-index.index e k c.entry-entry.ensures rest other))),

@@ -1,10 +1,12 @@
 use Rattle.std.proofs.Common.{List, ℕ, [], Option, Some, sym, ap, ◌∙◌, subst}
-use Rattle.std.specs.BTreeMap.{BTreeMap}
+use Rattle.std.specs.declared.hash.BuildHasherDefault.{BuildHasherDefault}
+use Rattle.std.specs.declared.hash.FoldHasher.{FoldHasher}
+use Rattle.std.specs.HashMap.{HashMap}
 use Rattle.std.proofs.lemmas.Result.{on_ok_weaker}
-use Rattle.rc_ids.specs.Tables.{Table, found, maybe}
-use Rattle.rc_ids.specs.Texts.{key_cmp, same_key}
+use Rattle.rc_ids.specs.Tables.{Table, maybe}
+use Rattle.rc_ids.specs.Texts.{same_key}
 use Rattle.rc_locks.specs.declared.cells.Holders.{Holders}
-use Rattle.rc_locks.specs.Cells.{writers_at, readers_at, HasRooms}
+use Rattle.rc_locks.specs.Cells.{cell_at, writers_at, readers_at, HasRooms}
 use Rattle.rc_locks.proofs.FlagFacts.{found_is}
 use Rattle.rc_locks.proofs.CellFacts.{list_set, list_idle, rooms_set, same_if}
 use Rattle.rc_locks.proofs.cells.widen_at.Goals as goal
@@ -30,7 +32,7 @@ returns-in-Some-clause-kept c =
 
 pub returns-in_ok-insert-in-None-clause-writers : goal.returns-in_ok-insert-in-None-clause-writers
 returns-in_ok-insert-in-None-clause-writers c k =
-    let same = ap (λ (m : BTreeMap (List ℕ) Holders). m.entries) c.get_mut.follows.holds-at-none in
+    let same = ap (λ (m : HashMap (List ℕ) Holders (BuildHasherDefault FoldHasher)). m.entries) c.get_mut.follows.holds-at-none in
     let none = ap (λ (es : Table (List ℕ) Holders). writers_at es c.copy.result) same ∙ ap (writers_at c.args.cells.now.entries) c.copy.ensures
     ∙ sym (ap (λ (o : Option Holders). maybe o [] (λ x. x.writers.items)) c.in-None.ensures.value) in
     list_idle (λ x. x.writers.items) c.get_mut.follows.lender-at-none.entries c.insert.new.self.entries c.copy.result (Some c.in_ok-cell-in-None.cell)
@@ -39,7 +41,7 @@ returns-in_ok-insert-in-None-clause-writers c k =
 
 pub returns-in_ok-insert-in-None-clause-readers : goal.returns-in_ok-insert-in-None-clause-readers
 returns-in_ok-insert-in-None-clause-readers c k =
-    let same = ap (λ (m : BTreeMap (List ℕ) Holders). m.entries) c.get_mut.follows.holds-at-none in
+    let same = ap (λ (m : HashMap (List ℕ) Holders (BuildHasherDefault FoldHasher)). m.entries) c.get_mut.follows.holds-at-none in
     let none = ap (λ (es : Table (List ℕ) Holders). readers_at es c.copy.result) same ∙ ap (readers_at c.args.cells.now.entries) c.copy.ensures
     ∙ sym (ap (λ (o : Option Holders). maybe o [] (λ x. x.readers.items)) c.in-None.ensures.value) in
     list_idle (λ x. x.readers.items) c.get_mut.follows.lender-at-none.entries c.insert.new.self.entries c.copy.result (Some c.in_ok-cell-in-None.cell)
@@ -48,7 +50,7 @@ returns-in_ok-insert-in-None-clause-readers c k =
 
 pub returns-in_ok-insert-in-None-clause-kept : goal.returns-in_ok-insert-in-None-clause-kept
 returns-in_ok-insert-in-None-clause-kept c k t had =
-    let same = ap (λ (m : BTreeMap (List ℕ) Holders). m.entries) c.get_mut.follows.holds-at-none in
+    let same = ap (λ (m : HashMap (List ℕ) Holders (BuildHasherDefault FoldHasher)). m.entries) c.get_mut.follows.holds-at-none in
     rooms_set c.get_mut.follows.lender-at-none.entries c.insert.new.self.entries c.copy.result c.in_ok-cell-in-None.cell t
     c.in_ok-insert-in-None.ensures.updates.0 (c.in_ok-cell-in-None.ensures.room t) k
-    (subst (λ (es : Table (List ℕ) Holders). HasRooms t (found key_cmp es k)) (sym same) had)
+    (subst (λ (es : Table (List ℕ) Holders). HasRooms t (cell_at es k)) (sym same) had)

@@ -1,15 +1,19 @@
-use Rattle.std.proofs.Common.{◌≡◌, ◌||◌, Bool, false, sym, ap, ◌∙◌}
+use Rattle.std.proofs.Common.{Some, cond, ap, ◌∙◌}
+use Rattle.std.specs.BTreeMap.{BTreeMap, is_at}
+use Rattle.rc_ids.specs.Tables.{found}
+use Rattle.rc_protocol.specs.Shard.{Mark, mark_cmp}
 use Rattle.rc_locks.specs.declared.flags.Lock.{Lock}
 use Rattle.rc_locks.specs.Flags.{taken_away}
-use Rattle.rc_locks.proofs.FlagFacts.{turned_by_set, as_taken_away}
+use Rattle.rc_locks.proofs.FlagFacts.{turned_there, turned_nowhere, found_is}
 use Rattle.rc_locks.proofs.flags.take_away.Goals as goal
-use Rattle.rc_locks.proofs.flags.take_away.Goals.{then-lock, else-lock}
 
-pub returns-clause-turned : goal.returns-clause-turned
-returns-clause-turned c =
-    let l : Lock = c.lock_of-lock.result in
-    let either : c.if-lock.lost ≡ (l.lost || l.plain) =
-    elim c.if-lock.branch [ then-lock w ↦ w.lost-is ∙ w.if-lock.true ∙ sym (ap (λ b. b || l.plain) w.if-lock.true) | else-lock w ↦ w.lost-is ∙ sym (ap (λ b. b || l.plain) w.if-lock.false) ] in
-    let r : Bool → Lock = λ b. record { plain = false; lost = b } in
-    turned_by_set c.args.locks.now.entries c.set.new.locks.entries c.args.mark.now (r c.if-lock.lost) taken_away
-    (λ k there. ap r either ∙ as_taken_away c.args.locks.now.entries c.args.mark.now l.plain l.lost c.lock_of-lock.ensures.plain c.lock_of-lock.ensures.lost k there) c.set.ensures.value
+pub returns-in-Some-clause-turned : goal.returns-in-Some-clause-turned
+returns-in-Some-clause-turned c =
+    turned_there c.args.locks.now.entries (c.get_mut.follows.lender c.taken.result).entries c.args.mark.now c.in-Some.held.now taken_away c.in-Some.ensures.value
+    (λ m. ((c.get_mut.follows.holds c.taken.result).3 (found_is _ c.in-Some.held.now c.in-Some.ensures.value)).0 m
+    ∙ ap (λ (l : Lock). cond (is_at (mark_cmp c.args.mark.now) m) (Some l) (found mark_cmp c.args.locks.now.entries m)) c.taken.ensures)
+
+pub returns-in_default-clause-turned : goal.returns-in_default-clause-turned
+returns-in_default-clause-turned c =
+    turned_nowhere c.args.locks.now.entries c.get_mut.follows.lender-at-none.entries c.args.mark.now taken_away
+    c.in_default.ensures.value (ap (λ (m : BTreeMap Mark Lock). m.entries) c.get_mut.follows.holds-at-none)

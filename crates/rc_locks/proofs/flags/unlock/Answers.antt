@@ -1,8 +1,17 @@
+use Rattle.std.proofs.Common.{ap}
+use Rattle.std.specs.BTreeMap.{BTreeMap}
+use Rattle.rc_protocol.specs.Shard.{Mark}
+use Rattle.rc_locks.specs.declared.flags.Lock.{Lock}
 use Rattle.rc_locks.specs.Flags.{without_plain}
-use Rattle.rc_locks.proofs.FlagFacts.{turned_by_set, as_without_plain}
+use Rattle.rc_locks.proofs.FlagFacts.{turned_there, turned_nowhere, found_is}
 use Rattle.rc_locks.proofs.flags.unlock.Goals as goal
 
-pub returns-clause-turned : goal.returns-clause-turned
-returns-clause-turned c =
-    turned_by_set c.args.locks.now.entries c.set.new.locks.entries c.args.mark.now _ without_plain
-    (as_without_plain c.args.locks.now.entries c.args.mark.now c.lock_of-lost.result.lost c.lock_of-lost.ensures.lost) c.set.ensures.value
+pub returns-in-Some-clause-turned : goal.returns-in-Some-clause-turned
+returns-in-Some-clause-turned c =
+    turned_there c.args.locks.now.entries (c.get_mut.follows.lender (without_plain c.in-Some.held.now)).entries c.args.mark.now c.in-Some.held.now without_plain c.in-Some.ensures.value
+    ((c.get_mut.follows.holds (without_plain c.in-Some.held.now)).3 (found_is _ c.in-Some.held.now c.in-Some.ensures.value)).0
+
+pub returns-in_default-clause-turned : goal.returns-in_default-clause-turned
+returns-in_default-clause-turned c =
+    turned_nowhere c.args.locks.now.entries c.get_mut.follows.lender-at-none.entries c.args.mark.now without_plain
+    c.in_default.ensures.value (ap (λ (m : BTreeMap Mark Lock). m.entries) c.get_mut.follows.holds-at-none)

@@ -1,5 +1,6 @@
 use Rattle.std.proofs.Common.{refl, ◌∙◌}
 use Rattle.rc_locks.specs.Flags.{without_plain, same_mark}
+use Rattle.rc_locks.proofs.FlagFacts.{places_stay}
 use Rattle.rc_locks.proofs.MoveFacts.{plain_same, lost_same, unlocked_plain, lost_stays, lost_turned}
 use Rattle.rc_locks.proofs.moves.unlock.Goals as goal
 
@@ -13,3 +14,7 @@ returns-clause-lost c =
     lost_same c.unlock.new.locks.entries c.drop_idle.new.locks.entries c.unlock.ensures.rises c.drop_idle.ensures.rises c.drop_idle.ensures.lost
     ∙ lost_stays c.args.locks.now.entries c.unlock.new.locks.entries c.requires.rises c.unlock.ensures.rises _
     (lost_turned (same_mark c.args.mark.now) without_plain (λ l. refl)) c.unlock.ensures.turned
+
+pub returns-clause-kept : goal.returns-clause-kept
+returns-clause-kept c m other had =
+    c.drop_idle.ensures.kept m other (places_stay _ c.args.locks.now.entries c.unlock.new.locks.entries c.unlock.ensures.turned m ∙ had)

@@ -5,6 +5,7 @@ use Rattle.rc_protocol.specs.Shard.{Mark, mark_cmp, is_free, added_all}
 use Rattle.rc_locks.specs.Cells.{is_free_at}
 use Rattle.rc_locks.specs.LockSets.{cleared_all}
 use Rattle.rc_locks.proofs.FreeFacts.{free_is, filter_alike, of_filter}
+use Rattle.rc_locks.proofs.MoveFacts.{placed_more, placed_filter}
 use Rattle.rc_locks.proofs.indexed.LocksLockTable.finish.Goals as goal
 
 pub grant_all-requires-clause-placed : goal.grant_all-requires-clause-placed
@@ -49,3 +50,18 @@ returns-clause-after c =
     ∙ ap (filter (λ (m : Mark). not (is_free parts m))) c.forget_all.ensures.waiting
     ∙ ap (λ (ps : List (ℕ × List Entry)). filter (λ (m : Mark). not (is_free ps m)) gone) c.remove_all.ensures.parts in
     λ i. record { parts = c.remove_all.ensures.parts i; marks = record { plain = plain i; lost = lost i; waiting = waiting i; place = 0 } }
+
+pub invariant_of-self : goal.invariant_of-self
+invariant_of-self c =
+    let free = is_free_at c.remove_all.new.cells.entries in
+    let ws : List Mark = c.forget_all.new.waiting.items in
+    record {
+      rising = c.remove_all.ensures.rises;
+      indexed = c.remove_all.ensures.indexed;
+      rises = c.grant_all.ensures.rises;
+      txs = c.grant_all.ensures.txs;
+      covered = λ m here. c.forget_all.ensures.covered m (sym (c.grant_all.ensures.places m) ∙ here);
+      placed = placed_filter (λ (m : Mark). not (free m)) ws c.drop_free.new.waiting.items c.grant_all.new.locks.entries
+          (placed_more ws c.forget_all.new.locks.entries c.grant_all.new.locks.entries c.forget_all.ensures.placed (λ m had. c.grant_all.ensures.places m ∙ had))
+          c.drop_free.ensures;
+    }
