@@ -1,8 +1,6 @@
 -- What is left of a list from a place on, and what a loop knows of it.
-use Rattle.std.proofs.Common.{◌≡◌, ◌==◌, ◌-◌, ◌^◌, is_some, ℕ, zero, suc, ◌+◌, ◌≤◌, Bool, true, false, ◌||◌, ◌&&◌, cond, filter, List, [], ◌∷◌, length, map, get_or, drop, drop-cons, append_assoc, ◌<◌, ◌++◌, slice_get, Option, Some, None, refl, ap, sym, ◌∙◌, arith, add-one}
+use Rattle.std.proofs.Common.{◌≡◌, ℕ, zero, suc, ◌+◌, ◌≤◌, Bool, true, false, ◌||◌, ◌&&◌, cond, filter, List, [], ◌∷◌, length, map, get_or, drop, drop-cons, append_assoc, ◌<◌, ◌++◌, slice_get, Option, Some, None, refl, ap, sym, ◌∙◌, arith, add-one}
 use Rattle.std.specs.List.{list_any}
-use Rattle.rc_body.proofs.Places.{none_passes}
-use Rattle.rc_body.specs.Entries.{wears_out}
 use Rattle.rc_ids.specs.Tables.{added, maybe}
 use Rattle.rc_body.specs.declared.entry.Entry.{Entry}
 use Rattle.rc_body.specs.declared.reason.Reason.{Reason}

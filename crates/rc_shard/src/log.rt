@@ -5,8 +5,9 @@ ghost use Rattle.rc_record.specs.declared.record.Record.{Record as RecordState};
 ghost use Rattle.rc_protocol.specs.Nodes.{shard_replayed};
 ghost use Rattle.rc_shard.specs.Logs.{LogState, new_log, IsReplayed, written};
 
+use crate::durable::Durable;
 use rc_ids::NoMemory;
-use rc_record::{Record, ShardDurable};
+use rc_record::Record;
 use std::alloc::Global;
 use std::marker::Model;
 use std::mem;
@@ -15,7 +16,7 @@ use std::mem;
 #[derive(Drop)]
 pub struct ShardLog {
     records: Vec<Record>,
-    durable: ShardDurable,
+    durable: Durable,
 }
 
 impl Model for ShardLog {
@@ -29,7 +30,7 @@ impl Model for ShardLog {
 }
 
 /// Makes of the durable state what replay makes of it at the record.
-fn apply(durable: &mut ShardDurable, entry: &Record) -> Result<(), NoMemory>
+fn apply(durable: &mut Durable, entry: &Record) -> Result<(), NoMemory>
     ensures { OnOk result (durable.new ≡ shard_applied durable.old entry.now) }
 {
     match entry {
@@ -40,10 +41,10 @@ fn apply(durable: &mut ShardDurable, entry: &Record) -> Result<(), NoMemory>
 }
 
 /// What replay makes of the records.
-fn replayed(alloc: Global, records: &[Record]) -> Result<ShardDurable, NoMemory>
+fn replayed(alloc: Global, records: &[Record]) -> Result<Durable, NoMemory>
     ensures { IfOk result (λ s. s ≡ shard_replayed new_durable records.now) }
 {
-    let mut durable = ShardDurable::new(alloc);
+    let mut durable = Durable::new(alloc);
     for entry in records {
         apply(&mut durable, entry)?;
     }
@@ -57,7 +58,7 @@ impl ShardLog {
     {
         ShardLog {
             records: Vec::new(alloc),
-            durable: ShardDurable::new(alloc),
+            durable: Durable::new(alloc),
         }
     }
 
@@ -69,7 +70,7 @@ impl ShardLog {
     }
 
     /// What replay makes of the records.
-    pub fn durable(&self) -> &ShardDurable
+    pub fn durable(&self) -> &Durable
         ensures { result.now ≡ self.now.durable }
     {
         &self.durable

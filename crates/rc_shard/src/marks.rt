@@ -5,10 +5,10 @@ ghost use Rattle.rc_protocol.specs.Shard.{Mark, mark_cmp, cleared, is_other, is_
 
 use crate::entries::takes;
 use crate::parts::is_free;
+use crate::prepared::PreparedParts;
 use crate::waiting::Waiting;
 use rc_body::Body;
 use rc_ids::{Key, NoMemory, TxId};
-use rc_record::PreparedParts;
 use std::alloc::Global;
 use std::collections::BTreeSet;
 use std::marker::Model;

@@ -4,9 +4,9 @@ ghost use Rattle.std.specs.Ordering.{nat_cmp};
 ghost use Rattle.rc_ids.specs.Tables.{found};
 ghost use Rattle.rc_protocol.specs.Shard.{concerns as concerns_lem, cut_to_part as cut_to_part_lem, unfinished as unfinished_lem};
 
+use crate::durable::Durable;
 use rc_body::{Decision, Page};
 use rc_ids::{Cluster, NoMemory, ShardId, TxId};
-use rc_record::ShardDurable;
 use std::alloc::Global;
 
 /// Whether the decision is an abort, or a commit with a key of the shard.
@@ -33,7 +33,7 @@ fn cut_to_part(cluster: &Cluster, shard: ShardId, decision: &Decision) -> Result
 fn is_new(
     cluster: &Cluster,
     shard: ShardId,
-    durable: &ShardDurable,
+    durable: &Durable,
     tx: TxId,
     decision: &Decision,
 ) -> bool
@@ -47,7 +47,7 @@ pub fn unfinished(
     alloc: Global,
     cluster: &Cluster,
     shard: ShardId,
-    durable: &ShardDurable,
+    durable: &Durable,
     page: &Page,
 ) -> Result<Page, NoMemory>
     ensures { IfOk result (λ left. left ≡ unfinished_lem cluster.now shard durable.now page.now) }

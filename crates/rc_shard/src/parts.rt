@@ -3,8 +3,8 @@ ghost use Rattle.std.specs.Prelude.{◌≡◌};
 ghost use Rattle.rc_protocol.specs.Shard.{holder as holder_lem, reader as reader_lem, is_free as is_free_lem};
 
 use crate::entries::writes_key;
+use crate::prepared::PreparedParts;
 use rc_ids::{Key, TxId};
-use rc_record::PreparedParts;
 
 /// Who holds the key exclusively: the least transaction whose part writes it.
 pub fn holder(parts: &PreparedParts, key: &Key) -> Option<TxId>

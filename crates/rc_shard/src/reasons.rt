@@ -3,12 +3,14 @@ ghost use Rattle.std.specs.Prelude.{◌≡◌, is_some};
 ghost use Rattle.rc_body.specs.declared.entry.Entry.{Entry};
 ghost use Rattle.rc_protocol.specs.Shard.{locked, lost_by, stale, first_reason, test};
 
+use crate::durable::Durable;
 use crate::marks::Marks;
 use crate::parts::{holder, reader};
+use crate::prepared::PreparedParts;
 use crate::volatile::Volatile;
 use rc_body::{Body, Reason};
 use rc_ids::{Key, TxId, Version};
-use rc_record::{PreparedParts, Rows, ShardDurable};
+use rc_record::Rows;
 
 /// Another transaction's part keeps an entry with the key from being prepared.
 fn locked_key(parts: &PreparedParts, key: &Key, written: bool) -> Option<Reason>
@@ -87,7 +89,7 @@ fn first_stale(rows: &Rows, part: &Body) -> Option<Reason>
 }
 
 /// Why the part of the transaction may not be prepared, where it may not.
-pub fn refusal(durable: &ShardDurable, volatile: &Volatile, tx: TxId, part: &Body) -> Option<Reason>
+pub fn refusal(durable: &Durable, volatile: &Volatile, tx: TxId, part: &Body) -> Option<Reason>
     ensures { result ≡ test durable.now volatile.now tx part.now }
 {
     if let Some(reason) = first_locked(&durable.parts, part) {

@@ -10,10 +10,12 @@ ghost use Rattle.rc_protocol.specs.Shard.{holder as holder_lem};
 ghost use Rattle.rc_protocol.specs.Shown.{with_written, with_held};
 ghost use Rattle.rc_shard.specs.Shown.{keys_shown, row_of};
 
+use crate::durable::Durable;
 use crate::parts::holder;
+use crate::prepared::PreparedParts;
 use rc_body::Body;
 use rc_ids::{DcId, Key, NoMemory, NodeId, ShardId};
-use rc_record::{PreparedParts, Rows, ShardDurable};
+use rc_record::Rows;
 use rc_report::{Hold, Line, Lines};
 use std::alloc::Global;
 use std::collections::BTreeSet;
@@ -70,7 +72,7 @@ fn row_keys(alloc: Global, rows: &Rows) -> Result<BTreeSet<Key>, NoMemory>
 }
 
 /// The line of a key.
-fn row_line(dc: DcId, shard: ShardId, durable: &ShardDurable, key: Key) -> Result<Line, NoMemory>
+fn row_line(dc: DcId, shard: ShardId, durable: &Durable, key: Key) -> Result<Line, NoMemory>
     ensures { IfOk result (λ line. line ≡ row_of (ShardServer dc shard) durable.now key) }
 {
     let version = durable.rows.version(&key);
@@ -86,7 +88,7 @@ fn row_line(dc: DcId, shard: ShardId, durable: &ShardDurable, key: Key) -> Resul
 fn push_rows(
     dc: DcId,
     shard: ShardId,
-    durable: &ShardDurable,
+    durable: &Durable,
     keys: BTreeSet<Key>,
     lines: &mut Lines,
 ) -> Result<(), NoMemory>
@@ -103,7 +105,7 @@ pub fn show_rows(
     alloc: Global,
     dc: DcId,
     shard: ShardId,
-    durable: &ShardDurable,
+    durable: &Durable,
     lines: &mut Lines,
 ) -> Result<(), NoMemory>
     ensures { OnOk result (lines.new ≡ lines.old ++ map (row_of (ShardServer dc shard) durable.now) (keys_shown durable.now)) }

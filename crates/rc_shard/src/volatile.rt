@@ -3,12 +3,12 @@ ghost use Rattle.std.specs.Prelude.{◌≡◌, ◌++◌, OnOk};
 ghost use Rattle.rc_ids.specs.Tables.{member};
 ghost use Rattle.rc_protocol.specs.Shard.{new_volatile, mark_cmp, forgotten, forgotten_all, is_next_page, with_place, do_catch, granted, grants, waits, locks_plain, on_read_cancel, preempted};
 
+use crate::durable::Durable;
 use crate::marks::Marks;
 use crate::waiting::Waiting;
 use rc_body::{Body, Page};
 use rc_ids::{DcId, Key, NoMemory, NodeId, Party, TxId};
 use rc_msg::{Messages, Msg};
-use rc_record::ShardDurable;
 use std::alloc::Global;
 use std::marker::Model;
 
@@ -130,7 +130,7 @@ impl Volatile {
     pub fn send_grants(
         &self,
         dc: DcId,
-        durable: &ShardDurable,
+        durable: &Durable,
         out: &mut Messages,
     ) -> Result<(), NoMemory>
         ensures { OnOk result (out.new ≡ out.old ++ grants dc durable.now self.now) }
@@ -139,7 +139,7 @@ impl Volatile {
     }
 
     /// Gives each waiting read whose key nobody holds exclusively a plain lock.
-    pub fn grant(&mut self, durable: &ShardDurable) -> Result<(), NoMemory>
+    pub fn grant(&mut self, durable: &Durable) -> Result<(), NoMemory>
         ensures { OnOk result (self.new ≡ granted durable.now self.old) }
     {
         self.plain.add_free(&self.waiting, &durable.parts)?;

@@ -3,11 +3,12 @@ ghost use Rattle.std.specs.Prelude.{◌≡◌, [], ◌∷◌, ◌++◌, not, fil
 ghost use Rattle.rc_ids.specs.Tables.{member};
 ghost use Rattle.rc_protocol.specs.Shard.{Mark, mark_cmp, cleared, is_other, is_free as is_free_lem, grant_of};
 
+use crate::durable::Durable;
 use crate::grants::send_grant;
 use crate::parts::is_free;
+use crate::prepared::PreparedParts;
 use rc_ids::{DcId, Key, NoMemory, TxId};
 use rc_msg::Messages;
-use rc_record::{PreparedParts, ShardDurable};
 use std::alloc::Global;
 use std::marker::Model;
 
@@ -76,7 +77,7 @@ impl Waiting {
     pub fn send_grants(
         &self,
         dc: DcId,
-        durable: &ShardDurable,
+        durable: &Durable,
         out: &mut Messages,
     ) -> Result<(), NoMemory>
         ensures { OnOk result (out.new ≡ out.old ++ map (grant_of dc durable.now.rows) (filter (is_free_lem durable.now.parts) self.now)) }
