@@ -76,7 +76,7 @@ module _ (c : Layout) (tx : ℕ) (s : Scene) (i : Agreeing c tx s) (shs : List S
               own = o.own;
               under = o.under;
               fresh = λ q p h. ⊎_elim (λ old. o.fresh q p old) (λ (at0 : k.ballot ≡ 0). let a = o.above0 in absurd (omega arith)) (p_new k.ballot p h);
-              each = λ d m. let x = o.each d m in (x.0, m_old k.ballot d x.0 x.1, x.2);
+              each = λ q d m. let x = o.each q d m in (x.0, m_old k.ballot d x.0 x.1, x.2);
               best = λ b q is. let x = o.best b q is in (x.0, m_old k.ballot x.0 (Some (b, q)) x.1);
               silent = λ d m. m_old k.ballot d None (o.silent d m);
             };

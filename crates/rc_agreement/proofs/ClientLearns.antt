@@ -1,6 +1,6 @@
 -- A client learns only what is chosen, and counts only votes that were cast.
 use Rattle.std.proofs.Common.{◌≡◌, ℕ, List, refl, sym, ◌∙◌, subst, Some}
-use Rattle.std.specs.Prelude.{not, ◌&&◌}
+use Rattle.std.specs.Prelude.{not, ◌&&◌, ◌==◌}
 use Rattle.std.specs.Ordering.{nat_cmp}
 use Rattle.rc_ids.specs.Tables.{found}
 use Rattle.rc_ids.specs.Cluster.{Layout, is_dc, is_quorum}

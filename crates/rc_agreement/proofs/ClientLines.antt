@@ -1,6 +1,6 @@
 -- A client prints only its own outcome, once it holds it.
 use Rattle.std.proofs.Common.{◌≡◌, ℕ, List, [], ◌∷◌, refl, subst, Some, ⊎_elim}
-use Rattle.std.specs.Prelude.{not, ◌&&◌}
+use Rattle.std.specs.Prelude.{not, ◌&&◌, ◌==◌}
 use Rattle.rc_ids.specs.Tables.{In}
 use Rattle.rc_ids.specs.Cluster.{Layout, is_dc, is_quorum}
 use Rattle.rc_ids.specs.declared.names.Outcome.{Outcome}

@@ -1,6 +1,6 @@
 -- What clients say: a client proposes its own commit alone, and what it proposed stays.
-use Rattle.std.proofs.Common.{◌≡◌, ℕ, List, [], ◌∷◌, refl, sym, Bool, true, false, cond, true≢false}
-use Rattle.std.specs.Prelude.{not, ◌&&◌}
+use Rattle.std.proofs.Common.{◌≡◌, ℕ, List, [], ◌∷◌, refl, sym, Bool, true, false, cond, true≢false, Option, Some, None}
+use Rattle.std.specs.Prelude.{not, ◌&&◌, ◌==◌}
 use Rattle.std.specs.Ordering.{nat_cmp}
 use Rattle.rc_ids.specs.Tables.{member, added}
 use Rattle.rc_ids.specs.Cluster.{Layout, is_dc, is_quorum, home, shard_of}
@@ -12,7 +12,7 @@ use Rattle.rc_msg.specs.declared.msg.Msg.TheVariants.{ReadAsk, ReadCancel, Grant
 use Rattle.rc_report.specs.declared.line.Line.{Line}
 use Rattle.rc_protocol.specs.Messages.{Sends, coordinator, shard_server, to_all}
 use Rattle.rc_protocol.specs.Coordinator.{is_decided_by}
-use Rattle.rc_protocol.specs.Client.{Client, ClientAct, Phase, Open, Committing, Proposed, Done, Vanished, Slot, KeyRead, UnderWay, Complete, Grant, is_open, is_over, is_committing, is_proposed, reads_on, client_stays, client_says, in_phase, with_slots, is_worn, proposes, body_of, slot_of, slot_set, asks, asks_new, reads_again, do_read, do_write, is_under_way, waits_for_read, reads_begun, unread_keys, asks_all, do_commit, drops_read, do_cancel, asks_rest, asks_again, waiting_keys, do_retry, do_vanish, grants_of, granted_by, cancel_to, cancels, completed, read_line, goes_on, after_read, unless_refused, with_grant, with_read, prints_of, takes_grant, wants_grant, on_granted, with_vote, on_voted, learns, counts_refusal, on_refused, client_row}
+use Rattle.rc_protocol.specs.Client.{Client, ClientAct, Phase, Open, Committing, Proposed, Done, Vanished, Slot, KeyRead, UnderWay, Complete, Grant, is_open, is_over, is_committing, is_proposed, reads_on, client_stays, client_says, in_phase, with_slots, is_worn, proposes, body_of, slot_of, slot_set, asks, asks_new, reads_again, do_read, do_write, is_under_way, waits_for_read, reads_begun, unread_keys, asks_all, do_commit, drops_read, do_cancel, asks_rest, asks_again, waiting_keys, do_retry, do_vanish, grants_of, granted_by, cancel_to, cancels, completed, read_line, goes_on, after_read, unless_refused, with_grant, with_read, prints_of, takes_grant, wants_grant, on_granted, with_vote, on_voted, learns, counts_refusal, on_refused, client_row, ClientRefusal, KeyWornOut}
 use Rattle.rc_agreement.proofs.Cases.{on_cond, on_maybe}
 use Rattle.rc_protocol.specs.Acts.{ClientCause, Hears, Reads, Writes, Commits, Cancels, Retries, Vanishes, client_by_row}
 use Rattle.rc_agreement.proofs.Said.{Says, Each, each_none, each_one, each_both, each_to, each_all, each_weaker, Modest, Mute, modest_mute}
@@ -137,9 +137,9 @@ module _ (c : Layout) (t : ℕ) (x : Client) where
   do_retry_tame =
       on_cond (Tame t x) (is_proposed x.phase) _ _
       (λ is. on_cond (λ ms. Tame t x (client_says x ms)) (is_quorum c x.refusals) _ _
-      (λ _. calm _ [] false (each_one Modest (coordinator (home c t)) (Abandon t) tt))
+      (λ _. calm _ [] None (each_one Modest (coordinator (home c t)) (Abandon t) tt))
       (λ _. record { says = own_offer x (proposed_is x.phase is); late = same_stays }))
-      (λ _. on_cond (Tame t x) (reads_on x.phase) _ _ (λ _. calm _ [] false (again_modest (waiting_keys x.slots))) (λ _. still))
+      (λ _. on_cond (Tame t x) (reads_on x.phase) _ _ (λ _. calm _ [] None (again_modest (waiting_keys x.slots))) (λ _. still))
 
   goes_on_tame : (y : Client) (ms : Sends) (ls : List Line) → Each Modest ms → reads_on x.phase ≡ true → Tame t x (unless_refused x (after_read ms ls (goes_on c t y)))
   goes_on_tame y ms ls q e =

@@ -15,14 +15,14 @@ use Rattle.rc_msg.specs.declared.msg.Msg.TheVariants.{Propose, Promise}
 use Rattle.rc_record.specs.declared.record.Record.TheVariants.{Promised, Accepted}
 use Rattle.rc_record.specs.CoordState.{CoordDurable, promise_of, coord_applied}
 use Rattle.rc_protocol.specs.Messages.{coordinator}
-use Rattle.rc_protocol.specs.Coordinator.{CoordAct, TakeOver, chooses, chooses_eagerly, chooses_patiently, best_or_abort}
+use Rattle.rc_protocol.specs.Coordinator.{CoordAct, TakeOver, chooses, chooses_eagerly, chooses_patiently, best_or_abort, proposed}
 use Rattle.rc_protocol.specs.Nodes.{CoordNode, applied, logged}
 use Rattle.rc_runs.specs.World.{envelopes, with_coord}
 use Rattle.rc_agreement.proofs.Cases.{on_cond, some_is, never, nat_dec}
 use Rattle.rc_agreement.proofs.Places.{node_is, coord_set, put_each}
 use Rattle.rc_agreement.proofs.Scenes.{Scene, at, There}
 use Rattle.rc_agreement.proofs.Promises.{replay_logged, applied_grows, applied_covers}
-use Rattle.rc_agreement.proofs.Said.{said_more, said_new}
+use Rattle.rc_agreement.proofs.Said.{Says, said_more, said_new}
 use Rattle.rc_agreement.proofs.Ballots.{Reported, Within, Held, Proposal, Answer, Vote, promise_at, Tops, Opens, Fine, Agreeing, Proposing, Answering, Opened, Good}
 use Rattle.rc_agreement.proofs.Reports.{within_trans}
 use Rattle.rc_agreement.proofs.Votes.{new_vote, old_vote, kept_real, kept_top, kept_promised}
@@ -83,8 +83,11 @@ module _ (c : Layout) (lay : IsLayout c) (tx : ℕ) (s : Scene) (i : Agreeing c 
   prom_old b e r h = said_more s.sent _ (Promise tx b e r) h
 
   -- a proposal: an old one, or this act's
+  prop_said : (b : ℕ) (o : Decision) → Proposal tx z b o → Proposal tx s b o ⊎ Says a.sends (Propose tx b o)
+  prop_said b o h = said_new s.sent (coordinator d) a.sends (Propose tx b o) h
+
   prop_new : (b : ℕ) (o : Decision) → Proposal tx z b o → Proposal tx s b o ⊎ Proposing tx s d a b o
-  prop_new b o h = ⊎_elim inl (λ n. inr (g.props b o n)) (said_new s.sent (coordinator d) a.sends (Propose tx b o) h)
+  prop_new b o h = ⊎_elim inl (λ n. inr (g.props b o n)) (prop_said b o h)
 
   tops : (e b : ℕ) (r : Reported) → b ≤ promise_at tx s e → Tops tx s e b r → Tops tx z e b r
   tops e b r p h =
@@ -103,7 +106,7 @@ module _ (c : Layout) (lay : IsLayout c) (tx : ℕ) (s : Scene) (i : Agreeing c 
         own = h.own;
         under = let u = prom_up e in let v = h.under in omega arith;
         fresh = λ p o q. new o p q;
-        each = λ f m. let x = h.each f m in (x.0, prom_old k.ballot f x.0 x.1, x.2);
+        each = λ q f m. let x = h.each q f m in (x.0, prom_old k.ballot f x.0 x.1, x.2);
         best = λ b q is. let x = h.best b q is in (x.0, prom_old k.ballot x.0 (Some (b, q)) x.1);
         silent = λ f m. prom_old k.ballot f None (h.silent f m);
       }
@@ -123,20 +126,15 @@ module _ (c : Layout) (lay : IsLayout c) (tx : ℕ) (s : Scene) (i : Agreeing c 
       }
 
   -- the act proposes at this ballot, and its take-over has proposed
-  proposed : (k : TakeOver) (o : Decision) → found nat_cmp a.after.takeovers tx ≡ Some k → Proposing tx s d a k.ballot o → k.has_proposed ≡ true
-  proposed k o is p = let e : p.k ≡ k = some_is p.k k (sym p.after ∙ is) in ap (λ (z : TakeOver). z.has_proposed) (sym e) ∙ p.proposed
+  has_spoken : (k : TakeOver) (o : Decision) → found nat_cmp a.after.takeovers tx ≡ Some k → Proposing tx s d a k.ballot o → k.has_proposed ≡ true
+  has_spoken k o is p = let e : proposed p.k ≡ k = some_is (proposed p.k) k (sym p.after ∙ is) in ap (λ (z : TakeOver). z.has_proposed) (sym e)
 
   take_after : (k : TakeOver) → found nat_cmp a.after.takeovers tx ≡ Some k → Opens tx z d k
   take_after k is =
       ⊎_elim
       (λ (o : Opens tx s d k). opens d k
-      (λ p q h. ⊎_elim (λ old. o.fresh q p old) (λ (new : Proposing tx s d a k.ballot p). true≢false (sym (proposed k p is new) ∙ q)) (prop_new k.ballot p h)) o)
-      (⊎_elim
+      (λ p q h. ⊎_elim (λ old. o.fresh q p old) (λ (new : Proposing tx s d a k.ballot p). true≢false (sym (has_spoken k p is new) ∙ q)) (prop_new k.ballot p h)) o)
       (λ (o : Opened tx s d a k). opened o)
-      (λ (o : Opens tx s d (record k { has_proposed = false }) × (k.has_proposed ≡ true)).
-      let h = opens d (record k { has_proposed = true }) (λ p q h. true≢false q)
-      (record { above0 = o.0.above0; own = o.0.own; under = o.0.under; fresh = λ q. absurd (true≢false q); each = o.0.each; best = o.0.best; silent = o.0.silent }) in
-      record { above0 = h.above0; own = h.own; under = h.under; fresh = λ q. absurd (true≢false (sym o.1 ∙ q)); each = h.each; best = h.best; silent = h.silent }))
       (g.takes k is)
     where
       opened : Opened tx s d a k → Opens tx z d k
@@ -155,7 +153,7 @@ module _ (c : Layout) (lay : IsLayout c) (tx : ℕ) (s : Scene) (i : Agreeing c 
                 let low : k.ballot ≤ promise_at tx s d = subst (λ e. k.ballot ≤ promise_at tx s e) own (i.under k.ballot p old above0) in absurd (omega arith))
                 (λ (new : Proposing tx s d a k.ballot p). never (Promised tx k.ballot) (sym new.norec ∙ o.noted))
                 (prop_new k.ballot p h);
-            each = λ f m. absurd (subst (In f) o.heard m);
+            each = λ q f m. absurd (subst (In f) o.heard m);
             best = λ b q is. never (b, q) (sym o.best ∙ is);
             silent = λ f m. absurd (subst (In f) o.silent m);
           }
@@ -180,10 +178,10 @@ module _ (c : Layout) (lay : IsLayout c) (tx : ℕ) (s : Scene) (i : Agreeing c 
   told b e r none h = let x = i.reports b e r h in (x.0, ⊎_elim (λ (z : (o : Decision) × Proposal tx s b o). absurd (none z.0 z.1)) (λ w. w) x.1)
 
   -- the best report is a vote
-  best_vote : (k : TakeOver) → Opens tx s d (record k { has_proposed = false }) → (b : ℕ) (q : Decision) → k.best ≡ Some (b, q) → (b < k.ballot) × Proposal tx s b q
-  best_vote k o b q is =
+  best_vote : (k : TakeOver) → k.has_proposed ≡ false → Opens tx s d k → (b : ℕ) (q : Decision) → k.best ≡ Some (b, q) → (b < k.ballot) × Proposal tx s b q
+  best_vote k quiet o b q is =
       let h = o.best b q is in
-      let x = told k.ballot h.0 (Some (b, q)) (o.fresh refl) h.1 in
+      let x = told k.ballot h.0 (Some (b, q)) (o.fresh quiet) h.1 in
       let v = x.1.real b q refl in
       (v.1, (i.coords h.0).voted b q v.0)
 
@@ -205,7 +203,7 @@ module _ (c : Layout) (lay : IsLayout c) (tx : ℕ) (s : Scene) (i : Agreeing c 
       ⊎_elim
       (λ (x : (is_quorum s.parties.layout p.k.heard ≡ true) × (o ≡ best_or_abort p.k.best)).
       let m = Q.share h.set p.k.heard h.enough x.0 in
-      let z = p.before.each m.0 m.2 in
+      let z = p.before.each p.quiet m.0 m.2 in
       let v = voted_q m.0 z.0 (h.each m.0 m.1) z.1 in
       let w = voted_low m.0 z.0 v z.1 in
       reported ((i.coords m.0).voted n q v) p.k.best refl (within_trans (Some (n, q)) z.0 p.k.best w z.2) x.1)
@@ -218,17 +216,17 @@ module _ (c : Layout) (lay : IsLayout c) (tx : ℕ) (s : Scene) (i : Agreeing c 
       -- a member that reported r at the ballot voted q at n, so r is of no lower ballot
       voted_q : (e : ℕ) (r : Reported) → Vote tx s e n q ⊎ (promise_at tx s e ≤ n) → Answer tx s p.k.ballot e r → Vote tx s e n q
       voted_q e r v z =
-          let x = told p.k.ballot e r (p.before.fresh refl) z in
+          let x = told p.k.ballot e r (p.before.fresh p.quiet) z in
           let at_it : p.k.ballot ≡ b = p.at_it in
           ⊎_elim (λ (y : Vote tx s e n q). y) (λ (y : promise_at tx s e ≤ n). absurd (omega (arith, x.0))) v
 
       voted_low : (e : ℕ) (r : Reported) → Vote tx s e n q → Answer tx s p.k.ballot e r → Within (Some (n, q)) r
-      voted_low e r v z = let at_it : p.k.ballot ≡ b = p.at_it in (told p.k.ballot e r (p.before.fresh refl) z).1.top n q v (omega arith)
+      voted_low e r v z = let at_it : p.k.ballot ≡ b = p.at_it in (told p.k.ballot e r (p.before.fresh p.quiet) z).1.top n q v (omega arith)
 
       reported : Proposal tx s n q → (best : Reported) → p.k.best ≡ best → Within (Some (n, q)) best → o ≡ best_or_abort best → ⊥
       reported v None is w e = w
       reported v (Some x) is w e =
-          let y = best_vote p.k p.before x.0 x.1 is in
+          let y = best_vote p.k p.quiet p.before x.0 x.1 is in
           ⊎_elim
           (λ (same : x.0 ≡ n). apart (i.unique n q x.1 v (subst (λ z. Proposal tx s z x.1) same y.1) ∙ sym e))
           (λ (more : x.0 ≡ n → ⊥). i.safe x.0 x.1 n q y.1 (let d : x.0 ≢ n = more in omega arith) (λ f. apart (f ∙ sym e)) h)
@@ -247,7 +245,7 @@ module _ (c : Layout) (lay : IsLayout c) (tx : ℕ) (s : Scene) (i : Agreeing c 
 
       from : (best : Reported) → p.k.best ≡ best → Commit x ≡ best_or_abort best → Proposal tx s 0 (Commit x)
       from None is e = absurd (no_abort e)
-      from (Some y) is e = let v = best_vote p.k p.before y.0 y.1 is in i.root y.0 x (subst (Proposal tx s y.0) (sym e) v.1)
+      from (Some y) is e = let v = best_vote p.k p.quiet p.before y.0 y.1 is in i.root y.0 x (subst (Proposal tx s y.0) (sym e) v.1)
 
   promise_new : (b e : ℕ) (r : Reported) → Answering tx s d a b e r → (b ≤ promise_at tx z e) × (((o : Decision) × Proposal tx z b o) ⊎ Tops tx z e b r)
   promise_new b e r p =
@@ -292,15 +290,13 @@ module _ (c : Layout) (lay : IsLayout c) (tx : ℕ) (s : Scene) (i : Agreeing c 
             ⊎_elim
             (λ (x1 : Proposal tx s b o). ⊎_elim
             (λ (z1 : Proposal tx s b p). i.unique b o p x1 z1)
-            (λ (z2 : Proposing tx s d a b p). absurd (z2.before.fresh refl o (subst (λ n. Proposal tx s n o) (sym z2.at_it) x1)))
-            (prop_new b p z))
-            (λ (x2 : Proposing tx s d a b o). ⊎_elim
-            (λ (z1 : Proposal tx s b p). absurd (x2.before.fresh refl p (subst (λ n. Proposal tx s n p) (sym x2.at_it) z1)))
-            (λ (z2 : Proposing tx s d a b p).
-            let same : x2.k ≡ z2.k = some_is x2.k z2.k (sym x2.after ∙ z2.after) in
-            some_is o p (sym x2.chose ∙ ap (chooses s.parties.layout) same ∙ z2.chose))
-            (prop_new b p z))
-            (prop_new b o x);
+            (λ (z2 : Says a.sends (Propose tx b p)). let new = g.props b p z2 in absurd (new.before.fresh new.quiet o (subst (λ n. Proposal tx s n o) (sym new.at_it) x1)))
+            (prop_said b p z))
+            (λ (x2 : Says a.sends (Propose tx b o)). let new = g.props b o x2 in ⊎_elim
+            (λ (z1 : Proposal tx s b p). absurd (new.before.fresh new.quiet p (subst (λ n. Proposal tx s n p) (sym new.at_it) z1)))
+            (λ (z2 : Says a.sends (Propose tx b p)). sym (new.all b p z2))
+            (prop_said b p z))
+            (prop_said b o x);
         root = λ b x p. prop_old 0 (Commit x) (⊎_elim (λ old. i.root b x old) (λ new. root_new Q b x new) (prop_new b (Commit x) p));
         under = λ b o p lo.
             let up = prom_up (owner_of s.parties.layout b) in

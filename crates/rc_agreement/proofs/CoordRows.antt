@@ -1,5 +1,5 @@
 -- Each row of a coordinator does only good to every transaction.
-use Rattle.std.proofs.Common.{◌≡◌, ℕ, ◌≤◌, List, [], ◌∷◌, refl, sym, ap, ◌∙◌, subst, Bool, true, false, cond, Option, Some, None, arith, ◌⊎◌, inl, inr, ⊎_elim, max}
+use Rattle.std.proofs.Common.{◌≡◌, ℕ, ◌≤◌, List, [], ◌∷◌, refl, sym, ap, ◌∙◌, subst, Bool, true, false, cond, Option, Some, None, arith, ◌⊎◌, inl, inr, ⊎_elim, max, true≢false}
 use Rattle.std.specs.Prelude.{not, ◌&&◌, is_some, ◌==◌, nat_lt, nat_le, length, ◌+◌, ◌^◌}
 use Rattle.std.specs.Ordering.{nat_cmp}
 use Rattle.std.proofs.lemmas.Bool.{ltb-false, eqb-true}
@@ -18,8 +18,8 @@ use Rattle.rc_msg.specs.declared.msg.Msg.TheVariants.{Propose, Prepare, Prepared
 use Rattle.rc_record.specs.declared.record.Record.{Record}
 use Rattle.rc_record.specs.declared.record.Record.TheVariants.{Promised, Accepted}
 use Rattle.rc_record.specs.CoordState.{CoordDurable, promise_of, outcome_of, coord_applied}
-use Rattle.rc_protocol.specs.Messages.{Sends, coordinator, shard_server, client_of, one, to_each, to_all}
-use Rattle.rc_protocol.specs.Coordinator.{CoordVolatile, CoordAct, Gather, TakeOver, coord_stays, coord_says, proposer, vote, accepts, finish_to, finishes, forgotten, learns, opening, opens, takes_over, has_all, with_gather, prepare_to, gathers_on, gather_at, takes_proposal, refuses, accepted_at, on_propose, waiting_gather, said_yes, with_yes, on_prepared, promise_record, promises_at, on_ask, better, hears, chooses, waiting_takeover, with_takeover, proposed, goes_on, on_promise, is_decided_by, tally_of, with_vote, on_voted, on_decided, most_entries, page_from, place_of, is_next_page, with_place, undecided, forgotten_all, finishes_all, outcomes_record, asks_next, takes_page, on_catch_page, do_catch, coord_row}
+use Rattle.rc_protocol.specs.Messages.{Sends, coordinator, shard_server, client_of, one, to_each, to_all, most_entries}
+use Rattle.rc_protocol.specs.Coordinator.{CoordVolatile, CoordAct, Gather, TakeOver, coord_stays, coord_says, proposer, vote, accepts, finish_to, finishes, forgotten, learns, opening, opens, takes_over, has_all, with_gather, prepare_to, gathers_on, gather_at, takes_proposal, refuses, accepted_at, on_propose, waiting_gather, said_yes, with_yes, on_prepared, promise_record, promises_at, on_ask, better, hears, chooses, waiting_takeover, with_takeover, proposed, goes_on, on_promise, is_decided_by, tally_of, with_vote, on_voted, on_decided, page_from, place_of, is_next_page, with_place, undecided, forgotten_all, finishes_all, outcomes_record, asks_next, takes_page, on_catch_page, do_catch, coord_row}
 use Rattle.rc_protocol.specs.Nodes.{applied}
 use Rattle.rc_agreement.proofs.Cases.{on_cond, on_maybe, some_is, never, and_left, and_right, not_true}
 use Rattle.rc_agreement.proofs.Tables.{put_same, put_cases, found_in, in_put, in_without, in_added, RisesFrom, rises_put, rises_without, found_without}
@@ -48,7 +48,7 @@ abbrev Gathers : Scene → CoordVolatile → Type 0
 Gathers s v = (u : ℕ) (g : Gather) → In (u, g) v.gathers → Proposal u s g.ballot (Commit g.body)
 
 abbrev TakesOf : Scene → ℕ → CoordAct → Type 0
-TakesOf s d a = (u : ℕ) (k : TakeOver) → found nat_cmp a.after.takeovers u ≡ Some k → Opens u s d k ⊎ (Opened u s d a k ⊎ (Opens u s d (record k { has_proposed = false }) × (k.has_proposed ≡ true)))
+TakesOf s d a = (u : ℕ) (k : TakeOver) → found nat_cmp a.after.takeovers u ≡ Some k → Opens u s d k ⊎ Opened u s d a k
 
 -- good to every transaction
 pub record Fair (s : Scene) (d : ℕ) (a : CoordAct) : Type 0 where
@@ -304,12 +304,12 @@ module _ (c : Layout) (s : Scene) (inv : (u : ℕ) → Agreeing c u s) (d : ℕ)
   -- TAKE-OVERS
   -- one more take-over
   takes_put : (a : CoordAct) (u : ℕ) (n : TakeOver) → a.after.takeovers ≡ put nat_cmp vol.takeovers u n
-      → (Opens u s d n ⊎ (Opened u s d a n ⊎ (Opens u s d (record n { has_proposed = false }) × (n.has_proposed ≡ true)))) → TakesOf s d a
+      → Opens u s d n ⊎ Opened u s d a n → TakesOf s d a
   takes_put a u n e h w k is =
       ⊎_elim
       (λ (same : (w ≡ u) × (found nat_cmp (put nat_cmp vol.takeovers u n) w ≡ Some n)).
       let new : n ≡ k = some_is n k (sym same.1 ∙ ap (λ (m : Table ℕ TakeOver). found nat_cmp m w) (sym e) ∙ is) in
-      subst (λ (y : ℕ × TakeOver). Opens y.0 s d y.1 ⊎ (Opened y.0 s d a y.1 ⊎ (Opens y.0 s d (record y.1 { has_proposed = false }) × (y.1.has_proposed ≡ true)))) (λ i. (sym same.0 i, new i)) h)
+      subst (λ (y : ℕ × TakeOver). Opens y.0 s d y.1 ⊎ Opened y.0 s d a y.1) (λ i. (sym same.0 i, new i)) h)
       (λ (other : (w ≡ u → ⊥) × (found nat_cmp (put nat_cmp vol.takeovers u n) w ≡ found nat_cmp vol.takeovers w)).
       inl (((inv w).coords d).takes k (sym other.1 ∙ ap (λ (m : Table ℕ TakeOver). found nat_cmp m w) (sym e) ∙ is)))
       (put_cases w u n vol.takeovers)
@@ -333,7 +333,7 @@ module _ (c : Layout) (s : Scene) (inv : (u : ℕ) → Agreeing c u s) (d : ℕ)
             claims = tt;
             gathers = known;
             rises = rises_put 0 u (opening b eager) vol.takeovers (omega arith) all_takes.rises;
-            takes = takes_put a u (opening b eager) refl (inr (inl (record { dc = dc; next = next; heard = refl; silent = refl; best = refl; noted = refl })));
+            takes = takes_put a u (opening b eager) refl (inr (record { dc = dc; next = next; heard = refl; silent = refl; best = refl; noted = refl }));
           }
 
   hear_opens : (u b from : ℕ) (r : Reported) (k : TakeOver) → k.ballot ≡ b → Answer u s b from r → Opens u s d k → Opens u s d (hears k from r)
@@ -343,9 +343,9 @@ module _ (c : Layout) (s : Scene) (inv : (u : ℕ) → Agreeing c u s) (d : ℕ)
         own = o.own;
         under = o.under;
         fresh = o.fresh;
-        each = λ e i. ⊎_elim
+        each = λ q e i. ⊎_elim
             (λ (is : e ≡ from). (r, rw (is, at_it) h, within_new k.best r))
-            (λ (old : In e k.heard). let x = o.each e old in (x.0, x.1, within_trans x.0 k.best (better k.best r) x.2 (within_old k.best r)))
+            (λ (old : In e k.heard). let x = o.each q e old in (x.0, x.1, within_trans x.0 k.best (better k.best r) x.2 (within_old k.best r)))
             (in_added e from k.heard i);
         best = λ b2 q is. ⊎_elim
             (λ (same : better k.best r ≡ k.best). o.best b2 q (sym same ∙ is))
@@ -358,8 +358,22 @@ module _ (c : Layout) (s : Scene) (inv : (u : ℕ) → Agreeing c u s) (d : ℕ)
       silents None h e i = ⊎_elim (λ (is : e ≡ from). rw (is, at_it) h) (λ (old : In e k.silent). o.silent e old) (in_added e from k.silent i)
       silents (Some x) h e i = o.silent e i
 
-  shut : (u : ℕ) (k : TakeOver) → k.has_proposed ≡ false → Opens u s d k → Opens u s d (record k { has_proposed = false })
-  shut u k quiet0 o = record { above0 = o.above0; own = o.own; under = o.under; fresh = λ _. o.fresh quiet0; each = o.each; best = o.best; silent = o.silent }
+  -- one that has proposed keeps its ballot, and asks for nothing any more
+  spoken : (u : ℕ) (k : TakeOver) → Opens u s d k → Opens u s d (proposed k)
+  spoken u k o = record {
+    above0 = o.above0;
+    own = o.own;
+    under = o.under;
+    fresh = λ q. absurd (true≢false q);
+    each = λ q. absurd (true≢false q);
+    best = λ b q is. never (b, q) is;
+    silent = o.silent;
+  }
+
+  all_same : (u b : ℕ) (v : Decision) (c : ℕ) (p : Decision) → Says (to_all cl (Propose u b v)) (Propose u c p) → p ≡ v
+  all_same u b v c p h =
+      let e : Propose u c p ≡ Propose u b v = (each_all (λ m. m ≡ Propose u b v) cl (Propose u b v) refl).each (Propose u c p) h in
+      cc
 
   goes_on_fair : (u : ℕ) (k : TakeOver) → k.has_proposed ≡ false → Opens u s d k → Fair s d (goes_on cl vol u k)
   goes_on_fair u k quiet0 o =
@@ -380,7 +394,7 @@ module _ (c : Layout) (s : Scene) (inv : (u : ℕ) → Agreeing c u s) (d : ℕ)
       chosen v is =
           let n : TakeOver = proposed k in
           let a : CoordAct = coord_says (with_takeover vol u n) (to_all cl (Propose u k.ballot v)) in
-          let offer : Proposing u s d a k.ballot v = record { k = n; after = put_same u n vol.takeovers; proposed = refl; at_it = refl; chose = is; before = shut u k quiet0 o; norec = refl } in
+          let offer : Proposing u s d a k.ballot v = record { k = k; quiet = quiet0; after = put_same u n vol.takeovers; at_it = refl; chose = is; before = o; norec = refl; all = all_same u k.ballot v } in
           let offers : Each (Offers s d a) (to_all cl (Propose u k.ballot v)) = each_all (Offers s d a) cl (Propose u k.ballot v) offer in
           let vows : Each (Vows s d a) (to_all cl (Propose u k.ballot v)) = each_all (Vows s d a) cl (Propose u k.ballot v) tt in
           record {
@@ -389,7 +403,7 @@ module _ (c : Layout) (s : Scene) (inv : (u : ℕ) → Agreeing c u s) (d : ℕ)
             claims = tt;
             gathers = known;
             rises = rises_put 0 u n vol.takeovers (omega arith) all_takes.rises;
-            takes = takes_put a u n refl (inr (inr (shut u k quiet0 o, refl)));
+            takes = takes_put a u n refl (inl (spoken u k o));
           }
 
   waiting_takeover_is : (u b from : ℕ) (k : TakeOver) → waiting_takeover dur vol u b from ≡ Some k → (found nat_cmp vol.takeovers u ≡ Some k) × (k.ballot ≡ b) × (k.has_proposed ≡ false)

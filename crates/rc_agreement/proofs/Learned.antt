@@ -15,8 +15,8 @@ use Rattle.rc_record.specs.declared.record.Record.{Record}
 use Rattle.rc_record.specs.declared.record.Record.TheVariants.{Head, Prepared, Finished, Promised, Accepted, Decided as OutcomesDecided}
 use Rattle.rc_record.specs.CoordState.{CoordDurable, coord_applied, outcomes_joined, outcome_of as listed_outcome}
 use Rattle.rc_record.specs.ShardState.{ShardDurable, shard_applied, new_durable as new_shard_durable}
-use Rattle.rc_protocol.specs.Messages.{Sends, coordinator, client_of, shard_server}
-use Rattle.rc_protocol.specs.Coordinator.{CoordAct, most_entries, new_volatile as new_coord_volatile}
+use Rattle.rc_protocol.specs.Messages.{Sends, coordinator, client_of, shard_server, most_entries}
+use Rattle.rc_protocol.specs.Coordinator.{CoordAct, new_volatile as new_coord_volatile}
 use Rattle.rc_protocol.specs.Shard.{ShardVolatile, new_volatile as new_shard_volatile}
 use Rattle.rc_protocol.specs.Client.{Client, ClientAct, new_client}
 use Rattle.rc_protocol.specs.Nodes.{CoordNode, ShardNode, shard_index, shard_started, shard_replayed, applied, logged}

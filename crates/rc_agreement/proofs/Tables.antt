@@ -1,5 +1,5 @@
 -- What stands in a list, a set or a table, also after a change.
-use Rattle.std.proofs.Common.{◌≡◌, ℕ, zero, suc, ◌<◌, ◌≤◌, List, [], ◌∷◌, ◌++◌, refl, sym, ap, ◌∙◌, subst, Bool, true, false, cond, Some, None, arith, ◌⊎◌, inl, inr, ⊎_elim}
+use Rattle.std.proofs.Common.{◌≡◌, ℕ, zero, suc, ◌<◌, ◌≤◌, List, [], ◌∷◌, ◌++◌, refl, sym, ap, ◌∙◌, subst, Bool, true, false, cond, Option, Some, None, arith, ◌⊎◌, inl, inr, ⊎_elim}
 use Rattle.std.specs.Prelude.{map, slice_get, slice_set}
 use Rattle.std.specs.declared.cmp.Ordering.{Ordering}
 use Rattle.std.specs.declared.cmp.Ordering.TheVariants.{Less, Equal, Greater}
@@ -9,7 +9,7 @@ use Rattle.std.specs.Map.{set_value}
 use Rattle.std.specs.FinMap.{nat_cmp-IsAntisymmetric, IsAntisymmetric}
 use Rattle.std.proofs.lemmas.Cmp.{nat_cmp_total}
 use Rattle.std.specs.Cmp.{tied_itself}
-use Rattle.rc_ids.specs.Tables.{In, Table, found, put, without, added}
+use Rattle.rc_ids.specs.Tables.{In, Table, found, put, without, added, maybe}
 use Rattle.rc_agreement.proofs.Cases.{nat_dec, never}
 
 -- LISTS
@@ -150,11 +150,8 @@ module _ {X : Type 0} where
     where
       go : (found nat_cmp es k ≡ Some v → set_value (is_at (nat_cmp k)) es v ≡ es) → (b : Bool)
           → cond b (Some e.1) (found nat_cmp es k) ≡ Some v → cond b ((e.0, v) ∷ es) (e ∷ set_value (is_at (nat_cmp k)) es v) ≡ e ∷ es
-      go ih true is = ap (λ (x : X). (e.0, x) ∷ es) (sym (got e.1 v is))
+      go ih true is = ap (λ (x : X). (e.0, x) ∷ es) (sym (ap (λ (o : Option X). maybe o v (λ z. z)) is))
       go ih false is = ap (λ (xs : Table ℕ X). e ∷ xs) (ih is)
-
-      got : (x y : X) → Some x ≡ Some y → x ≡ y
-      got x y h = ap (λ o. maybe o x (λ z. z)) h
 
   set_other : (q k : ℕ) (v : X) (t : Table ℕ X) → (q ≡ k → ⊥) → found nat_cmp (set_value (is_at (nat_cmp k)) t v) q ≡ found nat_cmp t q
   set_other q k v [] n = refl

@@ -6,3 +6,4 @@ pub mod ReadingLaws
 pub mod Written
 pub mod Growing
 pub mod RowFacts
+pub mod PartFacts

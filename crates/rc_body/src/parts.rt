@@ -1,5 +1,8 @@
 // Prepared parts of transactions.
-ghost use Rattle.std.specs.Prelude.{◌≡◌, ◌<◌, ◌==◌, false, [], ◌∷◌, ◌++◌, length, Some, OnOk, OnErr, slice_get};
+ghost use Rattle.std.specs.Prelude.{◌≡◌, ◌<◌, ◌==◌, false, [], ◌∷◌, ◌++◌, length, Some, OnOk, OnErr, slice_get, nat_eq, position};
+ghost use Rattle.std.specs.Ordering.{nat_cmp};
+ghost use Rattle.indexmap.specs.IndexMap.{insert_entry as in_order};
+ghost use Rattle.rc_ids.specs.Tables.{without};
 ghost use Rattle.rc_body.specs.Pages.{has_tx, TxsDiffer};
 
 use crate::Body;
@@ -43,6 +46,36 @@ impl Parts {
     {
         self.entries.push((tx, body))?;
         Ok(())
+    }
+
+    /// The place of the transaction, counted from 0, where it is there.
+    fn place(&self, tx: TxId) -> Option<usize>
+        ensures { result ≡ position (λ x. x.0 == tx) self.now }
+    {
+        self.entries.iter().position(|entry| entry.0 == tx)
+    }
+
+    /// Gives the transaction this body: in its place where it is there, else at the end; or leaves all as before.
+    pub fn put(&mut self, tx: TxId, body: Body) -> Result<(), NoMemory>
+        ensures ok { OnOk result (self.new ≡ in_order nat_eq self.old tx body) }
+        ensures err { OnErr result (self.new ≡ self.old) }
+    {
+        match self.place(tx) {
+            Some(place) => {
+                self.entries[place] = (tx, body);
+                Ok(())
+            }
+            None => self.push(tx, body),
+        }
+    }
+
+    /// Lets the transaction go, where it is there. The others keep their order.
+    pub fn remove(&mut self, tx: TxId)
+        ensures { self.new ≡ without nat_cmp self.old tx }
+    {
+        if let Some(place) = self.place(tx) {
+            let _ = self.entries.remove(place);
+        }
     }
 
     /// How many transactions there are.

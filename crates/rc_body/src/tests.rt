@@ -78,8 +78,12 @@ fn parts(rt: HostRuntime) -> Result<(), Fail> {
         let mut kept = Parts::new(rt.alloc());
         assert!(rt; kept.is_empty() && !kept.has(TxId(7)));
         kept.push(TxId(7), part)?;
+        kept.put(TxId(7), body.copy()?)?;
+        kept.put(TxId(9), Body::new(rt.alloc()))?;
+        assert_eq!(rt; kept.len(), 2);
+        kept.remove(TxId(7));
         assert_eq!(rt; kept.len(), 1);
-        assert_eq!(rt; kept.entry(0).0, TxId(7));
+        assert_eq!(rt; kept.entry(0).0, TxId(9));
         assert_eq!(rt; kept.into_entries().len(), 1);
     }
     Ok(())

@@ -9,3 +9,4 @@ pub mod FailingCallRuns
 pub mod LongRuns
 pub mod SizeRuns
 pub mod StoredRuns
+pub mod EdgeRuns

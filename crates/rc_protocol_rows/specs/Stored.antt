@@ -1,8 +1,10 @@
 -- Scripts over the logs that an earlier script left.
-use Rattle.std.specs.Prelude.{ℕ, ◌+◌, List, [], ◌∷◌, ◌++◌, map, codes, Bool, true, false, cond, Option, Some, None, Result, Ok, Err, if◌then◌else◌, slice_get}
+use Rattle.std.specs.Prelude.{ℕ, List, [], ◌∷◌, ◌++◌, map, length, take, codes, Bool, true, false, cond, Option, Some, None, Result, Ok, Err, if◌then◌else◌, slice_get}
+use Rattle.std.specs.List.{flat_map}
 use Rattle.rc_ids.specs.Tables.{maybe}
 use Rattle.rc_ids.specs.declared.names.NodeId.{NodeId}
 use Rattle.rc_ids.specs.declared.names.NodeId.TheVariants.{Coord, Shard}
+use Rattle.rc_fields.specs.Spelling.{u32_bytes}
 use Rattle.rc_record.specs.declared.record.Record.{Record}
 use Rattle.rc_record.specs.declared.record.Record.TheVariants.{Head}
 use Rattle.rc_record.specs.Heads.{new_head, same_node}
@@ -11,9 +13,9 @@ use Rattle.rc_script.specs.Reading.{script_of}
 use Rattle.rc_script.specs.declared.script.NumberedCommand.{NumberedCommand}
 use Rattle.rc_script.specs.declared.fault.ScriptFault.{ScriptFault}
 use Rattle.rc_runs.specs.World.{World, coord_at, shard_at}
-use Rattle.rc_runs.specs.Session.{Session, Halt, device_of}
+use Rattle.rc_runs.specs.Session.{Session, Halt}
 use Rattle.rc_runs.specs.Script.{performs}
-use Rattle.rc_runs.specs.Stored.{Place, Stored, Empty, Damaged, Kept, in_memory, new_session}
+use Rattle.rc_runs.specs.Stored.{Place, in_memory, new_session}
 use Rattle.rc_runs.specs.Text.{Done, BadScript, LimitMet, BadLog}
 use Rattle.rc_protocol_rows.specs.Cases.{Case, RunGivesAt, ended, three_dcs}
 
@@ -26,28 +28,32 @@ abbrev pub log_of : World → NodeId → List Record
 log_of w (Coord d) = maybe (coord_at w.parties d) [] (λ x. x.log)
 log_of w (Shard d s) = maybe (shard_at w.parties d s) [] (λ x. x.log)
 
-abbrev pub stored_of : Session → NodeId → Stored
-stored_of z node = Kept (device_of z node).place (map record_bytes (Head (new_head node z.world.parties.layout) ∷ log_of z.world node))
+-- a log's bytes: of each record an open gate, its length and itself; then a closed gate
+abbrev pub log_bytes : List (List ℕ) → List ℕ
+log_bytes records = flat_map (λ (r : List ℕ). (1 ∷ []) ++ u32_bytes (length r) ++ r) records ++ 0 ∷ []
 
-abbrev pub left_by_session : Result Session Halt → List NumberedCommand → NodeId → Stored
+abbrev pub stored_of : Session → NodeId → List ℕ
+stored_of z node = log_bytes (map record_bytes (Head (new_head node z.world.parties.layout) ∷ log_of z.world node))
+
+abbrev pub left_by_session : Result Session Halt → List NumberedCommand → NodeId → List ℕ
 left_by_session (Ok z) cs node = stored_of (runs_on z cs) node
-left_by_session (Err halt) cs node = Empty
+left_by_session (Err halt) cs node = []
 
 -- by a script of three datacentres of one shard each, without its first line
-abbrev pub left_by : Result (List NumberedCommand) ScriptFault → NodeId → Stored
-left_by (Ok []) node = Empty
+abbrev pub left_by : Result (List NumberedCommand) ScriptFault → NodeId → List ℕ
+left_by (Ok []) node = []
 left_by (Ok (world ∷ cs)) node = left_by_session (new_session in_memory three_dcs) cs node
-left_by (Err fault) node = Empty
+left_by (Err fault) node = []
 
-abbrev pub with_stored : (NodeId → Stored) → Place
-with_stored stored = record in_memory { stored = stored }
+abbrev pub with_stored : (NodeId → List ℕ) → Place
+with_stored content = record in_memory { content = content }
 
 abbrev pub over : List (List ℕ) → Place
 over script = with_stored (left_by (script_of (ended script)))
 
 -- one node's log is another one
-abbrev pub but_for : Place → NodeId → Stored → Place
-but_for place node other = record place { stored = λ n. if same_node n node then other else place.stored n }
+abbrev pub but_for : Place → NodeId → List ℕ → Place
+but_for place node other = record place { content = λ n. if same_node n node then other else place.content n }
 
 -- t1 wrote a key and committed
 abbrev pub after_commit : Place
@@ -93,18 +99,18 @@ bad_log line = record { script = ended (codes "world 3 1" ∷ []); text = ended 
 
 -- a log that is cut inside a frame
 abbrev pub cut_log : Place
-cut_log = but_for after_commit (Shard 1 1) (Damaged 40)
+cut_log = but_for after_commit (Shard 1 1) (take 43 (after_commit.content (Shard 1 1)))
 
 abbrev pub head_bytes_of : NodeId → List ℕ
 head_bytes_of node = record_bytes (Head (new_head node three_dcs))
 
 -- behind the head stands one byte that is no record
 abbrev pub refused_record : Place
-refused_record = but_for after_commit (Coord 2) (Kept 21 (head_bytes_of (Coord 2) ∷ (9 ∷ []) ∷ []))
+refused_record = but_for after_commit (Coord 2) (log_bytes (head_bytes_of (Coord 2) ∷ (9 ∷ []) ∷ []))
 
 -- the last ballot was promised
 abbrev pub last_ballot : Place
-last_ballot = but_for after_commit (Coord 2) (Kept 28 (head_bytes_of (Coord 2) ∷ (3 ∷ 0 ∷ 0 ∷ 0 ∷ 5 ∷ 128 ∷ 0 ∷ 0 ∷ 0 ∷ []) ∷ []))
+last_ballot = but_for after_commit (Coord 2) (log_bytes (head_bytes_of (Coord 2) ∷ (3 ∷ 0 ∷ 0 ∷ 0 ∷ 5 ∷ 128 ∷ 0 ∷ 0 ∷ 0 ∷ []) ∷ []))
 
 abbrev pub no_ballot : Case
 no_ballot = record { script = ended (codes "world 3 1" ∷ codes "take d2 t5" ∷ []); text = ended (codes "line 2: limit of ballots" ∷ []); ending = LimitMet }
@@ -114,5 +120,5 @@ abbrev pub gone_in_first_format : Place
 gone_in_first_format =
     with_stored (λ n.
     if same_node n (Shard 1 1)
-    then Kept 37 ((0 ∷ 1 ∷ 1 ∷ 1 ∷ 1 ∷ 3 ∷ 1 ∷ []) ∷ (1 ∷ 0 ∷ 0 ∷ 0 ∷ 1 ∷ 1 ∷ 1 ∷ 120 ∷ 0 ∷ 0 ∷ 0 ∷ 0 ∷ 0 ∷ 0 ∷ 0 ∷ 1 ∷ 1 ∷ 0 ∷ 1 ∷ 0 ∷ []) ∷ [])
-    else Empty)
+    then log_bytes ((0 ∷ 1 ∷ 1 ∷ 1 ∷ 1 ∷ 3 ∷ 1 ∷ []) ∷ (1 ∷ 0 ∷ 0 ∷ 0 ∷ 1 ∷ 1 ∷ 1 ∷ 120 ∷ 0 ∷ 0 ∷ 0 ∷ 0 ∷ 0 ∷ 0 ∷ 0 ∷ 1 ∷ 1 ∷ 0 ∷ 1 ∷ 0 ∷ []) ∷ [])
+    else [])

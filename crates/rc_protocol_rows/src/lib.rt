@@ -8,7 +8,8 @@ ghost use Rattle.rc_protocol_rows.specs.Cases.{RunGives, RunGivesAt, OneMapGives
 ghost use Rattle.rc_protocol_rows.specs.Cuts.{CutGives};
 ghost use Rattle.rc_protocol_rows.specs.FailingCalls.{CreationGives, AppendGives, failing_at, shard_stops, coord_stops_voting, coord_stops_learning, coord_stops_learned, not_opened};
 ghost use Rattle.rc_protocol_rows.specs.Long.{caught_up, outcomes, PagesGo};
-ghost use Rattle.rc_protocol_rows.specs.Stored.{after_commit, after_votes, second_run, chosen_before, begun_before, vanished_before, other_shards, other_weights, bad_log, cut_log, refused_record, last_ballot, no_ballot, gone_in_first_format};
+ghost use Rattle.rc_protocol_rows.specs.Stored.{over, after_commit, after_votes, second_run, chosen_before, begun_before, vanished_before, other_shards, other_weights, bad_log, cut_log, refused_record, last_ballot, no_ballot, gone_in_first_format};
+ghost use Rattle.rc_protocol_rows.specs.Edges.{NobodyOutside, ClientsKeepTheirOwn, ReportsGo, WornOutIsNoEvent, ReadsAreNotNamed, reading, begun_again, OrdersDiffer, LogsAreNamed, TextIsTraced, CallsAreCounted, SummaryIs, NamesAreTested};
 ghost use Rattle.rc_protocol_rows.specs.Sizes.{longest_key, longer_key, longest_value, longer_value, keys_in_excess, BeginsEnd};
 ghost use Rattle.rc_protocol_rows.specs.Calm.{empty, no_transaction, write_then_read, no_key, own_write, deletion, heavy_datacentre};
 ghost use Rattle.rc_protocol_rows.specs.Conflicts.{conflict, ordered_conflict, preemption, prepared_reader, waiting_reads, late_grant, two_versions};
@@ -123,4 +124,20 @@ pub fn stored_logs()
     ensures refused { RunGivesAt refused_record (bad_log (codes "d2: record 1 refused")) }
     ensures ballots { RunGivesAt last_ballot no_ballot }
     ensures format { RunGivesAt gone_in_first_format (bad_log (codes "d1.s1: record 1 refused")) }
+{}
+
+/// What stands at the edges: names outside the world, messages of others, acts that are worn out, orders, names, summaries.
+pub fn edges()
+    ensures outside { NobodyOutside }
+    ensures own { ClientsKeepTheirOwn }
+    ensures reports { ReportsGo }
+    ensures worn_out { WornOutIsNoEvent }
+    ensures unnamed { ReadsAreNotNamed }
+    ensures again { RunGivesAt (over reading) begun_again }
+    ensures orders { OrdersDiffer }
+    ensures logs { LogsAreNamed }
+    ensures traced { TextIsTraced }
+    ensures counted { CallsAreCounted }
+    ensures summary { SummaryIs }
+    ensures names { NamesAreTested }
 {}

@@ -6,3 +6,6 @@ pub mod HeadLaws
 pub mod RecordLaws
 pub mod Newest
 pub mod PageFacts
+pub mod ByNumber
+pub mod OrderFacts
+pub mod RowFacts

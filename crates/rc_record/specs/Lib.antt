@@ -3,6 +3,8 @@ pub mod Heads
 pub mod Kinds
 pub mod Spelling
 pub mod Reading
+pub mod Rows
 pub mod ShardState
+pub mod InOrder
 pub mod CoordState
 pub mod Replay

@@ -6,7 +6,8 @@ use Rattle.rc_ids.specs.Tables.{maybe}
 use Rattle.rc_record.specs.Heads.{LogHead, is_of}
 use Rattle.rc_record.specs.Kinds.{head_of, is_shard_record, is_coord_record, has_gone}
 use Rattle.rc_record.specs.Reading.{decoded}
-use Rattle.rc_record.specs.ShardState.{ShardDurable, new_durable as new_shard, shard_applied}
+use Rattle.rc_record.specs.ShardState.{ShardDurable, new_durable as new_shard}
+use Rattle.rc_record.specs.InOrder.{shard_replayed_by}
 use Rattle.rc_record.specs.CoordState.{CoordDurable, new_durable as new_coord, coord_applied}
 use Rattle.rc_record.specs.declared.fault.ReplayFault.{ReplayFault}
 use Rattle.rc_record.specs.declared.fault.ReplayFault.TheVariants.{BadRecord, OtherWorld}
@@ -36,7 +37,7 @@ on_ok (Err fault) next = Err fault
 abbrev pub shard_step : NodeId → Layout → ℕ → ℕ × ShardDurable → List ℕ → Result (ℕ × ShardDurable) ReplayFault
 shard_step node c place s bytes =
     maybe (decoded bytes) (Err (BadRecord place))
-    (λ r. on_ok (format_behind node c is_shard_record place s.0 r) (λ format. Ok (format, shard_applied s.1 r)))
+    (λ r. on_ok (format_behind node c is_shard_record place s.0 r) (λ format. Ok (format, shard_replayed_by s.1 r)))
 
 abbrev pub coord_step : NodeId → Layout → ℕ → ℕ × CoordDurable → List ℕ → Result (ℕ × CoordDurable) ReplayFault
 coord_step node c place s bytes =

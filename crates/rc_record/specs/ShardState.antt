@@ -1,13 +1,11 @@
 -- What a shard server's log gives back, and what a record makes of it.
-use Rattle.std.specs.Prelude.{ℕ, ◌+◌, List, [], ◌∷◌, Option, Some, None, nat_lt, if◌then◌else◌}
+use Rattle.std.specs.Prelude.{ℕ, List, [], ◌∷◌}
 use Rattle.std.specs.Ordering.{nat_cmp}
-use Rattle.rc_ids.specs.Tables.{Table, found, put, without, maybe}
-use Rattle.rc_ids.specs.Texts.{key_cmp}
-use Rattle.rc_ids.specs.declared.names.Outcome.{Outcome}
+use Rattle.rc_ids.specs.Tables.{found, put, without, maybe}
 use Rattle.rc_ids.specs.declared.names.Outcome.TheVariants.{Commit as Committed, Abort as Aborted}
-use Rattle.rc_body.specs.declared.entry.Entry.{Entry}
 use Rattle.rc_body.specs.declared.decision.Decision.{Decision}
 use Rattle.rc_body.specs.declared.decision.Decision.TheVariants.{Commit, Abort}
+pub use Rattle.rc_record.specs.Rows.{version_at, value_at, set_row, set_rows}
 use Rattle.rc_record.specs.declared.shard.ShardDurable.{ShardDurable as Durable}
 use Rattle.rc_record.specs.declared.record.Record.{Record}
 use Rattle.rc_record.specs.declared.record.Record.TheVariants.{Prepared, Finished}
@@ -19,21 +17,7 @@ ShardDurable = Durable
 abbrev pub new_durable : ShardDurable
 new_durable = record { rows = []; parts = []; finished = [] }
 
--- ROWS OF KEYS
-abbrev pub version_at : Table (List ℕ) (ℕ × List ℕ) → List ℕ → ℕ
-version_at rows k = maybe (found key_cmp rows k) 0 (λ row. row.0)
-
-abbrev pub value_at : Table (List ℕ) (ℕ × List ℕ) → List ℕ → Option (List ℕ)
-value_at rows k = maybe (found key_cmp rows k) None (λ row. Some row.1)
-
--- SETTLING: on commit each written key gets its value where its version here is lower
-abbrev pub set_row : Table (List ℕ) (ℕ × List ℕ) → Entry → Table (List ℕ) (ℕ × List ℕ)
-set_row rows e = maybe e.write rows (λ x. if nat_lt (version_at rows e.key) (e.version + 1) then put key_cmp rows e.key (e.version + 1, x) else rows)
-
-abbrev pub set_rows : Table (List ℕ) (ℕ × List ℕ) → List Entry → Table (List ℕ) (ℕ × List ℕ)
-set_rows rows [] = rows
-set_rows rows (e ∷ es) = set_rows (set_row rows e) es
-
+-- SETTLING
 abbrev pub settled : ShardDurable → ℕ → Decision → ShardDurable
 settled s t Abort = record { rows = s.rows; parts = without nat_cmp s.parts t; finished = put nat_cmp s.finished t Aborted }
 settled s t (Commit part) = record { rows = set_rows s.rows part; parts = without nat_cmp s.parts t; finished = put nat_cmp s.finished t Committed }
@@ -46,7 +30,7 @@ abbrev pub settled_all : ShardDurable → List (ℕ × Decision) → ShardDurabl
 settled_all s [] = s
 settled_all s (e ∷ es) = settled_all (settled_new s e) es
 
--- what a record makes of the durable state; replay folds it over a log
+-- what a record makes of the durable state, whose parts and outcomes are kept by number
 abbrev pub shard_applied : ShardDurable → Record → ShardDurable
 shard_applied s (Prepared t part) = record { rows = s.rows; parts = put nat_cmp s.parts t part; finished = s.finished }
 shard_applied s (Finished page) = settled_all s page

@@ -1,27 +1,30 @@
 // The outcomes of finished transactions.
-ghost use Rattle.std.specs.Prelude.{◌≡◌, [], is_some, OnOk};
+ghost use Rattle.std.specs.Prelude.{◌≡◌, [], ◌∷◌, ◌++◌, None, is_some, OnOk, OnErr};
 ghost use Rattle.std.specs.Ordering.{nat_cmp};
-ghost use Rattle.rc_ids.specs.Tables.{found, put};
+ghost use Rattle.rc_ids.specs.Tables.{found};
+ghost use Rattle.rc_body.specs.Pages.{TxsDiffer};
 
+use indexmap::IndexMap;
 use rc_ids::{NoMemory, Outcome, TxId};
 use std::alloc::Global;
-use std::collections::BTreeMap;
 use std::marker::Model;
 
-/// The outcome of each transaction that is finished here.
+/// The outcome of each transaction that is finished here, in the order in which they finished.
 #[derive(Drop)]
 pub struct FinishedTxs {
-    map: BTreeMap<TxId, Outcome>,
+    list: IndexMap<TxId, Outcome>,
 }
 
 impl Model for FinishedTxs {
-    ghost use Rattle.std.specs.Prelude.{ℕ};
-    ghost use Rattle.rc_ids.specs.Tables.{Table};
+    ghost use Rattle.std.specs.Prelude.{ℕ, List};
     ghost use Rattle.rc_ids.specs.declared.names.Outcome.{Outcome};
+    ghost use Rattle.rc_body.specs.Pages.{TxsDiffer};
 
-    ghost Value = { Table ℕ Outcome };
+    ghost Value = { List (ℕ × Outcome) };
 
-    ghost view = { λ a. a.map.entries };
+    ghost view = { λ a. a.list.entries };
+
+    ghost invariant = { λ a. TxsDiffer a.list.entries };
 }
 
 impl FinishedTxs {
@@ -30,7 +33,7 @@ impl FinishedTxs {
         ensures { result ≡ [] }
     {
         FinishedTxs {
-            map: BTreeMap::new(alloc),
+            list: IndexMap::new(alloc),
         }
     }
 
@@ -38,14 +41,24 @@ impl FinishedTxs {
     pub fn has(&self, tx: TxId) -> bool
         ensures { result ≡ is_some (found nat_cmp self.now tx) }
     {
-        self.map.contains_key(&tx)
+        self.list.contains_key(&tx)
     }
 
-    /// Keeps the outcome of the transaction.
-    pub fn put(&mut self, tx: TxId, outcome: Outcome) -> Result<(), NoMemory>
-        ensures { OnOk result (self.new ≡ put nat_cmp self.old tx outcome) }
+    /// Keeps the outcome of the transaction, which has none yet, at the end; or leaves all as before.
+    pub fn push(&mut self, tx: TxId, outcome: Outcome) -> Result<(), NoMemory>
+        requires { found nat_cmp self.old tx ≡ None }
+        ensures ok { OnOk result (self.new ≡ self.old ++ (tx, outcome) ∷ []) }
+        ensures err { OnErr result (self.new ≡ self.old) }
     {
-        self.map.insert(tx, outcome)?;
+        self.list.insert(tx, outcome)?;
         Ok(())
+    }
+
+    /// The transactions with their outcomes, in the order in which they finished.
+    pub fn into_map(self) -> IndexMap<TxId, Outcome>
+        ensures entries { result.entries ≡ self }
+        ensures apart { TxsDiffer self }
+    {
+        self.list
     }
 }

@@ -2,7 +2,7 @@
 ghost use Rattle.std.specs.Prelude.{◌≡◌, ◌≢◌, Ok, Err, IfOk, IfErr, OnOk};
 ghost use Rattle.rc_record.specs.Heads.{same_node as same_node_lem, same_world as same_world_lem, is_of as is_of_lem};
 ghost use Rattle.rc_record.specs.Kinds.{is_shard_record as is_shard_record_lem, is_coord_record as is_coord_record_lem};
-ghost use Rattle.rc_record.specs.ShardState.{shard_applied};
+ghost use Rattle.rc_record.specs.InOrder.{shard_replayed_by};
 ghost use Rattle.rc_record.specs.CoordState.{coord_applied};
 ghost use Rattle.rc_record.specs.Replay.{next_format as next_format_lem, is_refused as is_refused_lem, format_behind as format_behind_lem, shard_step as shard_step_lem, coord_step as coord_step_lem, shard_replay, coord_replay, head_in as head_in_lem, newest_head as newest_head_lem};
 ghost use Rattle.rc_record.specs.declared.fault.ReplayFault.TheVariants.{NoMemory as OutOfMemory};
@@ -119,7 +119,7 @@ fn coord_format(
 
 /// Makes of the durable state what the record makes of it.
 fn shard_apply(durable: &mut ShardDurable, entry: Record) -> Result<(), NoMemory>
-    ensures { OnOk result (durable.new ≡ shard_applied durable.old entry) }
+    ensures { OnOk result (durable.new ≡ shard_replayed_by durable.old entry) }
 {
     match entry {
         Record::Prepared(tx, part) => durable.prepare(tx, part),

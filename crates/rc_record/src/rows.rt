@@ -1,6 +1,6 @@
 // The version and the value of each key.
 ghost use Rattle.std.specs.Prelude.{◌≡◌, ◌==◌, ◌-◌, ◌^◌, false, [], Some, IfOk, OnOk};
-ghost use Rattle.rc_record.specs.ShardState.{version_at, value_at, set_row, set_rows};
+ghost use Rattle.rc_record.specs.Rows.{version_at, value_at, set_row, set_rows, AreWritten};
 
 use rc_body::Body;
 use rc_ids::{Key, NoMemory, Val, Version};
@@ -8,7 +8,7 @@ use std::alloc::Global;
 use std::collections::BTreeMap;
 use std::marker::Model;
 
-/// The rows of a shard: the version and the value of each key that was ever written there.
+/// The rows of a shard: the version and the value of each key that was ever written there. Each version is 1 or more.
 #[derive(Drop)]
 pub struct Rows {
     map: BTreeMap<Key, (Version, Val)>,
@@ -17,10 +17,13 @@ pub struct Rows {
 impl Model for Rows {
     ghost use Rattle.std.specs.Prelude.{ℕ, List};
     ghost use Rattle.rc_ids.specs.Tables.{Table};
+    ghost use Rattle.rc_record.specs.Rows.{AreWritten};
 
     ghost Value = { Table (List ℕ) (ℕ × List ℕ) };
 
     ghost view = { λ a. a.map.entries };
+
+    ghost invariant = { λ a. AreWritten a.map.entries };
 }
 
 impl Rows {
@@ -55,7 +58,8 @@ impl Rows {
 
     /// The rows as a map.
     pub fn as_map(&self) -> &BTreeMap<Key, (Version, Val)>
-        ensures { result.now.entries ≡ self.now }
+        ensures entries { result.now.entries ≡ self.now }
+        ensures written { AreWritten self.now }
     {
         &self.map
     }

@@ -1,5 +1,8 @@
 // One call of each function, with ample memory, and bytes that stand in the description of records.
-use crate::{Head, Record, ReplayFault, decode, encode, newest_head, replay_coord, replay_shard};
+use crate::{
+    Head, Record, ReplayFault, decode, encode, encode_finished, encode_prepared, newest_head,
+    replay_coord, replay_shard,
+};
 use rc_body::{Body, Decision, Page};
 use rc_ids::{Ballot, Blob, Blobs, Cluster, DcId, NodeId, ShardId, TxId};
 use std::alloc::Global;
@@ -61,8 +64,11 @@ fn records(rt: HostRuntime) -> Result<(), Fail> {
     let mut bytes = written(alloc, Record::Promised(TxId(1), Ballot(3)))?;
     assert_eq!(rt; bytes.as_bytes(), [3, 0, 0, 0, 1, 0, 0, 0, 3].as_slice());
     alone(&rt, alloc, &mut bytes)?;
-    let prepared = written(alloc, Record::Prepared(TxId(1), Body::new(alloc)))?;
+    let prepared = encode_prepared(alloc, TxId(1), &Body::new(alloc))?;
     assert_eq!(rt; prepared.as_bytes(), PREPARED.as_slice());
+    let page = Page::one(alloc, TxId(1), Decision::Abort)?;
+    let finished = encode_finished(alloc, &page)?;
+    assert_eq!(rt; finished.as_bytes(), [2, 1, 0, 0, 0, 1, 0].as_slice());
     assert!(rt; is_record(alloc, &DELETES)?);
     // a page without transactions is in no record
     assert!(rt; !is_record(alloc, &[5, 0])?);
@@ -139,5 +145,27 @@ fn coordinators(rt: HostRuntime) -> Result<(), Fail> {
     let blobs = aborted(alloc)?;
     assert!(rt; has_outcome(alloc, &blobs, TxId(1))?);
     assert!(rt; !has_outcome(alloc, &blobs, TxId(2))?);
+    Ok(())
+}
+
+/// The log of a shard server in which t2 finished, and then t1.
+fn two_finished(alloc: Global) -> Result<Blobs, Fail> {
+    let mut blobs = Blobs::new(alloc);
+    blobs.push(head(alloc, NodeId::Shard(DcId(1), ShardId(1)))?)?;
+    for tx in [2, 1] {
+        let page = Page::one(alloc, TxId(tx), Decision::Abort)?;
+        blobs.push(encode_finished(alloc, &page)?)?;
+    }
+    Ok(blobs)
+}
+
+#[test]
+fn keeps_the_order(rt: HostRuntime) -> Result<(), Fail> {
+    let alloc = rt.alloc();
+    let node = NodeId::Shard(DcId(1), ShardId(1));
+    let durable = replay_shard(alloc, node, &cluster(alloc)?, &two_finished(alloc)?)?;
+    let finished = durable.finished.into_map();
+    assert_eq!(rt; finished.get_index_of(&TxId(2)), Some(0));
+    assert_eq!(rt; finished.get_index_of(&TxId(1)), Some(1));
     Ok(())
 }

@@ -2,9 +2,8 @@
 ghost use Rattle.std.specs.Prelude.{◌≡◌, ◌++◌, OnOk, IfOk};
 ghost use Rattle.std.specs.List.{flat_map};
 ghost use Rattle.rc_fields.specs.Spelling.{u8_bytes, u32_bytes, key_bytes};
-ghost use Rattle.rc_body.specs.Spelling.{page_bytes};
 ghost use Rattle.rc_record.specs.Spelling.{weights_bytes, head_bytes, record_bytes};
-ghost use Rattle.rc_record.specs.declared.record.Record.TheVariants.{Prepared, Accepted};
+ghost use Rattle.rc_record.specs.declared.record.Record.TheVariants.{Head as HeadRecord, Prepared, Finished, Promised, Accepted, Decided};
 
 use crate::{Head, Record};
 use rc_body::{Body, Decision, Page, put_body, put_decision, put_page};
@@ -16,8 +15,74 @@ use std::alloc::Global;
 pub fn encode(alloc: Global, r: &Record) -> Result<Blob, NoMemory>
     ensures { IfOk result (λ bytes. bytes ≡ record_bytes r.now) }
 {
+    match r {
+        Record::Prepared(tx, part) => encode_prepared(alloc, *tx, part),
+        Record::Finished(page) => encode_finished(alloc, page),
+        Record::Head(head) => encode_head(alloc, head),
+        Record::Promised(tx, ballot) => encode_promised(alloc, *tx, *ballot),
+        Record::Accepted(tx, ballot, decision) => encode_accepted(alloc, *tx, *ballot, decision),
+        Record::Decided(page) => encode_decided(alloc, page),
+    }
+}
+
+/// The one spelling of the record that a shard prepared its part of the transaction.
+pub fn encode_prepared(alloc: Global, tx: TxId, part: &Body) -> Result<Blob, NoMemory>
+    ensures { IfOk result (λ bytes. bytes ≡ record_bytes (Prepared tx part.now)) }
+{
     let mut out = Blob::new(alloc);
-    put_record(&mut out, r)?;
+    put_u8(&mut out, 1)?;
+    put_u32(&mut out, tx.0)?;
+    put_body(&mut out, part)?;
+    Ok(out)
+}
+
+/// The one spelling of the record that a shard learned the outcomes of the page.
+pub fn encode_finished(alloc: Global, page: &Page) -> Result<Blob, NoMemory>
+    ensures { IfOk result (λ bytes. bytes ≡ record_bytes (Finished page.now)) }
+{
+    let mut out = Blob::new(alloc);
+    put_u8(&mut out, 2)?;
+    put_page(&mut out, page)?;
+    Ok(out)
+}
+
+fn encode_head(alloc: Global, head: &Head) -> Result<Blob, NoMemory>
+    ensures { IfOk result (λ bytes. bytes ≡ record_bytes (HeadRecord head.now)) }
+{
+    let mut out = Blob::new(alloc);
+    put_u8(&mut out, 0)?;
+    put_head(&mut out, head)?;
+    Ok(out)
+}
+
+fn encode_promised(alloc: Global, tx: TxId, ballot: Ballot) -> Result<Blob, NoMemory>
+    ensures { IfOk result (λ bytes. bytes ≡ record_bytes (Promised tx ballot)) }
+{
+    let mut out = Blob::new(alloc);
+    put_tx_ballot(&mut out, 3, tx, ballot)?;
+    Ok(out)
+}
+
+fn encode_accepted(
+    alloc: Global,
+    tx: TxId,
+    ballot: Ballot,
+    decision: &Decision,
+) -> Result<Blob, NoMemory>
+    ensures { IfOk result (λ bytes. bytes ≡ record_bytes (Accepted tx ballot decision.now)) }
+{
+    let mut out = Blob::new(alloc);
+    put_tx_ballot(&mut out, 4, tx, ballot)?;
+    put_decision(&mut out, decision)?;
+    Ok(out)
+}
+
+fn encode_decided(alloc: Global, page: &Page) -> Result<Blob, NoMemory>
+    ensures { IfOk result (λ bytes. bytes ≡ record_bytes (Decided page.now)) }
+{
+    let mut out = Blob::new(alloc);
+    put_u8(&mut out, 5)?;
+    put_page(&mut out, page)?;
     Ok(out)
 }
 
@@ -53,59 +118,10 @@ fn put_head(out: &mut Blob, head: &Head) -> Result<(), NoMemory>
     put_keys(out, head.cluster().splits())
 }
 
-fn put_head_record(out: &mut Blob, head: &Head) -> Result<(), NoMemory>
-    ensures { OnOk result (out.new ≡ out.old ++ (u8_bytes 0 ++ head_bytes head.now)) }
-{
-    put_u8(out, 0)?;
-    put_head(out, head)
-}
-
-fn put_prepared(out: &mut Blob, tx: TxId, part: &Body) -> Result<(), NoMemory>
-    ensures { OnOk result (out.new ≡ out.old ++ record_bytes (Prepared tx part.now)) }
-{
-    put_u8(out, 1)?;
-    put_u32(out, tx.0)?;
-    put_body(out, part)
-}
-
-/// Adds a kind and a page.
-fn put_outcomes(out: &mut Blob, kind: u8, page: &Page) -> Result<(), NoMemory>
-    ensures { OnOk result (out.new ≡ out.old ++ (u8_bytes kind ++ page_bytes page.now)) }
-{
-    put_u8(out, kind)?;
-    put_page(out, page)
-}
-
 fn put_tx_ballot(out: &mut Blob, kind: u8, tx: TxId, ballot: Ballot) -> Result<(), NoMemory>
     ensures { OnOk result (out.new ≡ out.old ++ (u8_bytes kind ++ u32_bytes tx ++ u32_bytes ballot)) }
 {
     put_u8(out, kind)?;
     put_u32(out, tx.0)?;
     put_u32(out, ballot.0)
-}
-
-fn put_accepted(
-    out: &mut Blob,
-    tx: TxId,
-    ballot: Ballot,
-    decision: &Decision,
-) -> Result<(), NoMemory>
-    ensures { OnOk result (out.new ≡ out.old ++ record_bytes (Accepted tx ballot decision.now)) }
-{
-    put_tx_ballot(out, 4, tx, ballot)?;
-    put_decision(out, decision)
-}
-
-/// Adds the kind of the record and its fields.
-fn put_record(out: &mut Blob, entry: &Record) -> Result<(), NoMemory>
-    ensures { OnOk result (out.new ≡ out.old ++ record_bytes entry.now) }
-{
-    match entry {
-        Record::Head(head) => put_head_record(out, head),
-        Record::Prepared(tx, part) => put_prepared(out, *tx, part),
-        Record::Finished(page) => put_outcomes(out, 2, page),
-        Record::Promised(tx, ballot) => put_tx_ballot(out, 3, *tx, *ballot),
-        Record::Accepted(tx, ballot, decision) => put_accepted(out, *tx, *ballot, decision),
-        Record::Decided(page) => put_outcomes(out, 5, page),
-    }
 }

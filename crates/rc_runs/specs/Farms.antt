@@ -1,6 +1,6 @@
 -- The place of a run, read off a farm: what its disks had at the start, and which calls failed, as the disks tell it when they are given
 -- back. Of a disk that tells nothing nothing is read.
-use Rattle.std.specs.Prelude.{◌≡◌, ℕ, ◌+◌, ◌-◌, Bool, true, false, ◌&&◌, List, [], ◌∷◌, ◌++◌, Option, Some, None, IfSome, nat_lt, if◌then◌else◌}
+use Rattle.std.specs.Prelude.{◌≡◌, ℕ, ◌+◌, ◌-◌, Bool, true, false, ◌&&◌, List, [], ◌∷◌, map, Option, Some, None, IfSome, nat_lt, if◌then◌else◌}
 use Rattle.rc_ids.specs.Tables.{maybe}
 use Rattle.rc_ids.specs.declared.names.NodeId.{NodeId}
 use Rattle.rc_disk.specs.Calls.{Told}
@@ -54,11 +54,7 @@ cut_at _ = []
 abbrev pub cut_of : Session → NodeId → Event → List ℕ
 cut_of z node e =
     maybe (append_of (deed z.world.parties z.world.sent e)) []
-    (λ a. if same_node a.0 node then shifted (device_of z node).calls (cut_at (appended (device_of z node) a.1).0) else [])
-  where
-    shifted : ℕ → List ℕ → List ℕ
-    shifted calls [] = []
-    shifted calls (at ∷ ats) = calls + at ∷ []
+    (λ a. if same_node a.0 node then map (λ (at : ℕ). (device_of z node).calls + at) (cut_at (appended (device_of z node) a.1).0) else [])
 
 -- the disk tells these among its failed calls
 pub record CutsAreTold (fell : NodeId → List ℕ) (start : NodeId → Start) (ended : NodeId → Standing) : Type 0 where

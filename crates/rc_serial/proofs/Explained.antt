@@ -2,7 +2,7 @@
 use Rattle.std.proofs.Common.{◌≡◌, ◌==◌, ◌↔◌, ℕ, suc, Bool, true, false, if◌then◌else◌, List, [], ◌∷◌, Option, Some, None, IsNone, inl, inr, refl, sym, ap, ◌∙◌, arith}
 use Rattle.rc_ids.specs.Tables.{In, maybe}
 use Rattle.rc_body.specs.declared.entry.Entry.{Entry}
-use Rattle.rc_protocol.specs.Shard.{version_at}
+use Rattle.rc_record.specs.ShardState.{version_at}
 use Rattle.rc_serial.specs.OneMap.{Map, FirstWrong, Explains, body_applied, wrong_entry, first_wrong}
 use Rattle.rc_serial.specs.Orders.{NoneServed}
 

@@ -12,7 +12,7 @@ use Rattle.rc_ids.specs.Tables.{Table, put, maybe}
 use Rattle.rc_ids.specs.Texts.{key_cmp, same_key}
 use Rattle.rc_body.specs.Bodies.{has_key}
 use Rattle.rc_body.specs.declared.entry.Entry.{Entry}
-use Rattle.rc_protocol.specs.Shard.{version_at}
+use Rattle.rc_record.specs.ShardState.{version_at}
 use Rattle.rc_serial.specs.OneMap.{Map, entry_applied, body_applied, wrong_entry}
 use Rattle.rc_serial.specs.Versions.{versions_of, version_in, entry_raised, body_raised, Agree}
 

@@ -1,6 +1,6 @@
 -- A client says nothing of parts and grants; once it has proposed or is over, its keys stay.
-use Rattle.std.proofs.Common.{◌≡◌, ℕ, List, [], ◌∷◌, refl, Bool, true, false, Some, None}
-use Rattle.std.specs.Prelude.{not, ◌&&◌}
+use Rattle.std.proofs.Common.{◌≡◌, ℕ, List, [], ◌∷◌, refl, Bool, true, false, Some, None, Option}
+use Rattle.std.specs.Prelude.{not, ◌&&◌, ◌==◌}
 use Rattle.std.specs.Ordering.{nat_cmp}
 use Rattle.rc_ids.specs.Tables.{member, added}
 use Rattle.rc_ids.specs.Cluster.{Layout, is_dc, is_quorum, home, shard_of}
@@ -11,7 +11,7 @@ use Rattle.rc_msg.specs.declared.msg.Msg.TheVariants.{ReadAsk, ReadCancel, Grant
 use Rattle.rc_report.specs.declared.line.Line.{Line}
 use Rattle.rc_protocol.specs.Messages.{Sends, coordinator, shard_server, to_all}
 use Rattle.rc_protocol.specs.Coordinator.{is_decided_by}
-use Rattle.rc_protocol.specs.Client.{Client, ClientAct, Proposed, Slot, KeyRead, Complete, Grant, is_open, is_over, is_committing, is_proposed, reads_on, client_stays, in_phase, with_slots, is_worn, proposes, body_of, slot_of, slot_set, asks, asks_new, reads_again, do_read, do_write, is_under_way, waits_for_read, reads_begun, unread_keys, asks_all, do_commit, drops_read, do_cancel, asks_rest, asks_again, waiting_keys, do_retry, grants_of, granted_by, cancel_to, cancels, completed, read_line, goes_on, after_read, unless_refused, with_grant, takes_grant, wants_grant, on_granted, counts_refusal, client_row}
+use Rattle.rc_protocol.specs.Client.{Client, ClientAct, Proposed, Slot, KeyRead, Complete, Grant, is_open, is_over, is_committing, is_proposed, reads_on, client_stays, in_phase, with_slots, is_worn, proposes, body_of, slot_of, slot_set, asks, asks_new, reads_again, do_read, do_write, is_under_way, waits_for_read, reads_begun, unread_keys, asks_all, do_commit, drops_read, do_cancel, asks_rest, asks_again, waiting_keys, do_retry, grants_of, granted_by, cancel_to, cancels, completed, read_line, goes_on, after_read, unless_refused, with_grant, takes_grant, wants_grant, on_granted, counts_refusal, client_row, ClientRefusal, KeyWornOut}
 use Rattle.rc_agreement.proofs.Cases.{on_cond, on_maybe}
 use Rattle.rc_protocol.specs.Acts.{ClientCause, Hears, Reads, Writes, Commits, Cancels, Retries, Vanishes, client_by_row}
 use Rattle.rc_agreement.proofs.Ballots.{Late}

@@ -16,8 +16,8 @@ use Rattle.rc_msg.specs.declared.msg.Msg.TheVariants.{ReadAsk, Granted, Propose,
 use Rattle.rc_record.specs.declared.record.Record.{Record}
 use Rattle.rc_record.specs.declared.record.Record.TheVariants.{Promised, Accepted}
 use Rattle.rc_record.specs.CoordState.{CoordDurable, promise_of, outcome_of as listed_outcome}
-use Rattle.rc_protocol.specs.Messages.{coordinator, shard_server, client_of, one, to_each, to_all}
-use Rattle.rc_protocol.specs.Coordinator.{CoordVolatile, CoordAct, Gather, coord_stays, coord_says, proposer, vote, accepts, finish_to, finishes, forgotten, learns, opens, takes_over, has_all, with_gather, prepare_to, gathers_on, gather_at, takes_proposal, refuses, accepted_at, on_propose, waiting_gather, said_yes, with_yes, on_prepared, promises_at, on_ask, hears, chooses, waiting_takeover, with_takeover, proposed, on_promise, is_decided_by, tally_of, with_vote, on_voted, on_decided, most_entries, page_from, place_of, is_next_page, with_place, undecided, forgotten_all, finishes_all, outcomes_record, asks_next, takes_page, on_catch_page, do_catch, coord_row}
+use Rattle.rc_protocol.specs.Messages.{coordinator, shard_server, client_of, one, to_each, to_all, most_entries}
+use Rattle.rc_protocol.specs.Coordinator.{CoordVolatile, CoordAct, Gather, coord_stays, coord_says, proposer, vote, accepts, finish_to, finishes, forgotten, learns, opens, takes_over, has_all, with_gather, prepare_to, gathers_on, gather_at, takes_proposal, refuses, accepted_at, on_propose, waiting_gather, said_yes, with_yes, on_prepared, promises_at, on_ask, hears, chooses, waiting_takeover, with_takeover, proposed, on_promise, is_decided_by, tally_of, with_vote, on_voted, on_decided, page_from, place_of, is_next_page, with_place, undecided, forgotten_all, finishes_all, outcomes_record, asks_next, takes_page, on_catch_page, do_catch, coord_row}
 use Rattle.rc_agreement.proofs.Cases.{on_cond, on_maybe, some_is, never}
 use Rattle.rc_agreement.proofs.Tables.{put_same, found_in, in_put, in_without, in_added}
 use Rattle.rc_protocol.specs.Acts.{NodeCause, Came, Takes, Catches, coord_act}

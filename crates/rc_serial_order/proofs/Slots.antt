@@ -1,6 +1,6 @@
 -- The keys of a client differ, and what it holds of each was granted to it.
 use Rattle.std.proofs.Common.{◌≡◌, ℕ, List, [], ◌∷◌, ◌++◌, refl, sym, ap, ◌∙◌, subst, Bool, true, false, Option, Some, None, ◌⊎◌, inl, inr, ⊎_elim, true≢false}
-use Rattle.std.specs.Prelude.{map, not, ◌&&◌, nat_lt}
+use Rattle.std.specs.Prelude.{map, not, ◌&&◌, nat_lt, ◌==◌}
 use Rattle.std.specs.List.{flat_map}
 use Rattle.rc_ids.specs.Tables.{In, maybe}
 use Rattle.rc_ids.specs.Texts.{same_key}

@@ -18,9 +18,9 @@ use Rattle.rc_record.specs.declared.record.Record.{Record}
 use Rattle.rc_record.specs.declared.record.Record.TheVariants.{Head, Prepared as PartPrepared, Finished, Promised, Accepted, Decided}
 use Rattle.rc_record.specs.CoordState.{CoordDurable, coord_applied, outcomes_joined}
 use Rattle.rc_record.specs.ShardState.{ShardDurable, shard_applied}
-use Rattle.rc_protocol.specs.Messages.{Sends, coordinator, shard_server, client_of}
+use Rattle.rc_protocol.specs.Messages.{Sends, coordinator, shard_server, client_of, most_entries}
 use Rattle.rc_protocol.specs.Shard.{ShardVolatile, cut_to_part, new_volatile as new_shard_volatile}
-use Rattle.rc_protocol.specs.Coordinator.{CoordAct, most_entries, new_volatile as new_coord_volatile}
+use Rattle.rc_protocol.specs.Coordinator.{CoordAct, new_volatile as new_coord_volatile}
 use Rattle.rc_protocol.specs.Client.{Client, new_client}
 use Rattle.rc_protocol.specs.Nodes.{CoordNode, ShardNode, applied, logged}
 use Rattle.rc_runs.specs.World.{envelopes, replaced, with_coord, with_shard, new_world}

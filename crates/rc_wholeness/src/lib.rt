@@ -2,6 +2,7 @@
 //! nothing, and hold at the end of every life of a store.
 #![tactic(auto)]
 
+ghost use Rattle.std.specs.Prelude.{List};
 ghost use Rattle.rc_ids.specs.Cluster.{Layout, IsLayout};
 ghost use Rattle.rc_runs.specs.World.{World};
 ghost use Rattle.rc_claims.specs.Lives.{IsLife};

@@ -3,7 +3,7 @@ use Rattle.std.specs.Option.{option_copied}
 use Rattle.rc_ids.specs.Tables.{Table}
 use Rattle.rc_body.specs.Entries.{seen}
 use Rattle.rc_body.specs.declared.entry.Entry.{Entry}
-use Rattle.rc_record.specs.ShardState.{set_row, set_rows}
+use Rattle.rc_record.specs.Rows.{set_row, set_rows}
 use Rattle.rc_record.proofs.Rest.{drop_step, lasts}
 use Rattle.rc_record.proofs.rows.Rows.raise_all.Goals as goal
 use Rattle.rc_record.proofs.rows.Rows.raise_all.Goals.{in-Some+in_ok-raise, in_default}

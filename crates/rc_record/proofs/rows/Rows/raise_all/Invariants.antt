@@ -1,5 +1,5 @@
 use Rattle.std.proofs.Common.{◌≡◌, drop}
-use Rattle.rc_record.specs.ShardState.{set_rows}
+use Rattle.rc_record.specs.Rows.{set_rows}
 use Rattle.rc_record.proofs.rows.Rows.raise_all.Given as goal
 
 abbrev pub invariant-loop-index : goal.invariant-loop-index

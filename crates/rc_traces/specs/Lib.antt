@@ -1,0 +1,2 @@
+-- What lines of a script print themselves.
+pub mod Own
