@@ -1,6 +1,6 @@
 -- Rows, where it is known which way they go.
-use Rattle.std.proofs.Common.{◌≡◌, ℕ, Bool, true, false, cond, List, [], ◌++◌, Some, refl, sym, ap, subst, ◌∙◌, append-nil}
-use Rattle.std.specs.Prelude.{if◌then◌else◌}
+use Rattle.std.proofs.Common.{◌≡◌, ℕ, Bool, true, false, cond, List, [], ◌++◌, None, Some, refl, sym, ap, subst, ◌∙◌, append-nil}
+use Rattle.std.specs.Prelude.{◌==◌, ◌&&◌, if◌then◌else◌}
 use Rattle.rc_ids.specs.Cluster.{Layout, is_dc, is_quorum}
 use Rattle.rc_body.specs.declared.decision.Decision.{Decision}
 use Rattle.rc_msg.specs.declared.msg.Msg.TheVariants.{Voted}
@@ -32,13 +32,13 @@ abbrev voted : ℕ → Client → Client → Decision → Bool → Bool → Clie
 voted t x y o over decides = cond over (client_stays x) (cond decides (learns t y o) (client_stays y))
 
 voted-rest : (t : ℕ) (x y : Client) (o : Decision) (over decides : Bool)
-    → ((voted t x y o over decides).sends ≡ []) × ((voted t x y o over decides).worn ≡ false)
+    → ((voted t x y o over decides).sends ≡ []) × ((voted t x y o over decides).refused ≡ None)
 voted-rest t x y o true decides = (refl, refl)
 voted-rest t x y o false true = (refl, refl)
 voted-rest t x y o false false = (refl, refl)
 
--- a vote sends nothing, and wears out nothing
-on_voted-rest : (c : Layout) (t : ℕ) (x : Client) (b d : ℕ) (o : Decision) → ((on_voted c t x b d o).sends ≡ []) × ((on_voted c t x b d o).worn ≡ false)
+-- a vote sends nothing, and refuses nothing
+on_voted-rest : (c : Layout) (t : ℕ) (x : Client) (b d : ℕ) (o : Decision) → ((on_voted c t x b d o).sends ≡ []) × ((on_voted c t x b d o).refused ≡ None)
 on_voted-rest c t x b d o = voted-rest t x (with_vote x b d o) o (is_over x.phase) (is_decided_by c x.votes b d o)
 
 on_voted-does : (c : Layout) (t : ℕ) (x after : Client) (b d : ℕ) (o : Decision) (out : Sends) (printed lines : List Line)
@@ -46,11 +46,11 @@ on_voted-does : (c : Layout) (t : ℕ) (x after : Client) (b d : ℕ) (o : Decis
     → Does (on_voted c t x b d o) after out out printed lines
 on_voted-does c t x after b d o out printed lines state says =
     let rest = on_voted-rest c t x b d o in
-    record { state = state; sends = sym (append-nil out) ∙ ap (λ ms. out ++ ms) (sym rest.0); lines = says; lasts = rest.1 }
+    record { state = state; sends = sym (append-nil out) ∙ ap (λ ms. out ++ ms) (sym rest.0); lines = says; taken = rest.1 }
 
--- a vote of a datacentre of the world
+-- a vote on the transaction, of a datacentre of the world
 pub voted-row : (c : Layout) (t u : ℕ) (x after : Client) (b d : ℕ) (o : Decision) (out : Sends) (printed lines : List Line)
-    → is_dc c d ≡ true → after ≡ (on_voted c t x b d o).after → lines ≡ printed ++ (on_voted c t x b d o).lines
+    → ((u == t) && is_dc c d) ≡ true → after ≡ (on_voted c t x b d o).after → lines ≡ printed ++ (on_voted c t x b d o).lines
     → Does (client_row c t x (Voted u b d o)) after out out printed lines
 voted-row c t u x after b d o out printed lines inside state says =
     let row : client_row c t x (Voted u b d o) ≡ on_voted c t x b d o = ap (λ y. if y then on_voted c t x b d o else client_stays x) inside in

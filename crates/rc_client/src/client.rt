@@ -1,8 +1,7 @@
 // A client.
-ghost use Rattle.std.specs.Prelude.{◌≡◌, ◌<◌, [], ◌∷◌, ◌++◌, true, false, length, None, OnOk, IsErrOf, if◌then◌else◌};
+ghost use Rattle.std.specs.Prelude.{◌≡◌, ◌<◌, [], ◌∷◌, ◌++◌, ◌==◌, ◌&&◌, true, false, length, None, Some, OnOk, IsErrOf, if◌then◌else◌};
 ghost use Rattle.rc_ids.specs.Cluster.{is_dc as is_dc_lem};
-ghost use Rattle.rc_protocol.specs.Client.{new_client, is_open as is_open_lem, slot_of, do_read, do_write, do_commit, do_cancel, do_retry, do_vanish, client_row, drops_read, proposes_again, asks_again, waiting_keys, is_proposed, reads_on, asks_new, reads_slot, proposes, goes_on, on_granted, on_voted, on_refused, on_decided, learns, gives_up};
-ghost use Rattle.rc_protocol.specs.Client.{is_full as is_full_lem};
+ghost use Rattle.rc_protocol.specs.Client.{new_client, is_open as is_open_lem, slot_of, do_read, do_write, do_commit, do_cancel, do_retry, do_vanish, client_row, drops_read, proposes_again, asks_again, waiting_keys, is_proposed, reads_on, asks_new, reads_slot, proposes, goes_on, on_granted, on_voted, on_refused, on_decided, learns, gives_up, is_full as is_full_lem, KeyWornOut as IsWornOut};
 ghost use Rattle.rc_client.specs.Acts.{Says, Does, completes_at};
 ghost use Rattle.rc_client.specs.Phases.{phase_of};
 ghost use Rattle.rc_client.specs.Slots.{waits_at};
@@ -51,6 +50,13 @@ fn is_dc(cluster: &Cluster, dc: DcId) -> bool
     ensures { result ≡ is_dc_lem cluster.now dc }
 {
     1 <= dc.0 && dc.0 <= cluster.dcs()
+}
+
+/// Whether a message is of this transaction, and of a datacentre of the world.
+fn concerns(cluster: &Cluster, tx: TxId, of: TxId, dc: DcId) -> bool
+    ensures { result ≡ ((of == tx) && is_dc_lem cluster.now dc) }
+{
+    of == tx && is_dc(cluster, dc)
 }
 
 /// Prints the line at the end of a key's read, if one is wanted.
@@ -117,7 +123,7 @@ impl Client {
     ) -> Result<(), ClientFault>
         requires { is_full_lem self.old key.now ≡ false }
         ensures done { OnOk result (Does (do_read cluster.now tx self.old key.now) self.new out.old out.new lines.old lines.new) }
-        ensures worn { IsErrOf result KeyWornOut → (do_read cluster.now tx self.old key.now).worn ≡ true }
+        ensures worn { IsErrOf result KeyWornOut → (do_read cluster.now tx self.old key.now).refused ≡ Some IsWornOut }
     {
         let Some(slot) = self.slots.get(key) else {
             self.ask_new(cluster, tx, key, out)?;
@@ -167,7 +173,7 @@ impl Client {
         requires open { is_open_lem self.old.phase ≡ true }
         requires room { is_full_lem self.old key.now ≡ false }
         ensures done { OnOk result (self.new ≡ (do_write self.old key.now value.now).after) }
-        ensures worn { IsErrOf result KeyWornOut → (do_write self.old key.now value.now).worn ≡ true }
+        ensures worn { IsErrOf result KeyWornOut → (do_write self.old key.now value.now).refused ≡ Some IsWornOut }
     {
         self.slots.write(key, value)?;
         Ok(())
@@ -181,7 +187,7 @@ impl Client {
         out: &mut Messages,
     ) -> Result<(), ClientFault>
         ensures done { OnOk result (Says (do_commit cluster.now tx self.old) self.new out.old out.new) }
-        ensures worn { IsErrOf result KeyWornOut → (do_commit cluster.now tx self.old).worn ≡ true }
+        ensures worn { IsErrOf result KeyWornOut → (do_commit cluster.now tx self.old).refused ≡ Some IsWornOut }
     {
         if !self.slots.wait_once_begun() {
             return self.propose(cluster, tx, out);
@@ -202,7 +208,7 @@ impl Client {
         out: &mut Messages,
     ) -> Result<(), ClientFault>
         ensures done { OnOk result (Says (do_cancel cluster.now tx self.old key.now) self.new out.old out.new) }
-        ensures worn { IsErrOf result KeyWornOut → (do_cancel cluster.now tx self.old key.now).worn ≡ true }
+        ensures worn { IsErrOf result KeyWornOut → (do_cancel cluster.now tx self.old key.now).refused ≡ Some IsWornOut }
     {
         if self.waits_for(key) {
             self.drop_read(cluster, tx, key, out)?;
@@ -234,7 +240,7 @@ impl Client {
     /// Sends again what the client waits for, and stays as it is.
     pub fn retry(&self, cluster: &Cluster, tx: TxId, out: &mut Messages) -> Result<(), ClientFault>
         ensures done { OnOk result (Says (do_retry cluster.now tx self.now) self.now out.old out.new) }
-        ensures worn { IsErrOf result KeyWornOut → (do_retry cluster.now tx self.now).worn ≡ true }
+        ensures worn { IsErrOf result KeyWornOut → (do_retry cluster.now tx self.now).refused ≡ Some IsWornOut }
     {
         if self.phase.is_proposed() {
             self.propose_again(cluster, tx, out)?;
@@ -277,8 +283,8 @@ impl Client {
         tx: TxId,
         out: &mut Messages,
     ) -> Result<(), ClientFault>
-        ensures done { OnOk result (Says (proposes cluster.now tx self.old self.old) self.new out.old out.new) }
-        ensures worn { IsErrOf result KeyWornOut → (proposes cluster.now tx self.old self.old).worn ≡ true }
+        ensures done { OnOk result (Says (proposes cluster.now tx self.old) self.new out.old out.new) }
+        ensures worn { IsErrOf result KeyWornOut → (proposes cluster.now tx self.old).refused ≡ Some IsWornOut }
     {
         if self.slots.is_worn() {
             return Err(ClientFault::KeyWornOut);
@@ -291,8 +297,8 @@ impl Client {
 
     /// Proposes, where the client commits and waits for no read.
     fn go_on(&mut self, cluster: &Cluster, tx: TxId, out: &mut Messages) -> Result<(), ClientFault>
-        ensures done { OnOk result (Says (goes_on cluster.now tx self.old self.old) self.new out.old out.new) }
-        ensures worn { IsErrOf result KeyWornOut → (goes_on cluster.now tx self.old self.old).worn ≡ true }
+        ensures done { OnOk result (Says (goes_on cluster.now tx self.old) self.new out.old out.new) }
+        ensures worn { IsErrOf result KeyWornOut → (goes_on cluster.now tx self.old).refused ≡ Some IsWornOut }
     {
         if self.phase.is_committing() && !self.slots.wait() {
             return self.propose(cluster, tx, out);
@@ -313,7 +319,7 @@ impl Client {
     ) -> Result<(), ClientFault>
         requires { reads_on self.old.phase ≡ true }
         ensures done { OnOk result (Does (completes_at cluster.now tx self.old key.now prints grants.now) self.new out.old out.new lines.old lines.new) }
-        ensures worn { IsErrOf result KeyWornOut → (completes_at cluster.now tx self.old key.now prints grants.now).worn ≡ true }
+        ensures worn { IsErrOf result KeyWornOut → (completes_at cluster.now tx self.old key.now prints grants.now).refused ≡ Some IsWornOut }
     {
         let (version, value) = grants.best()?;
         cancel(cluster, tx, key, grants, out)?;
@@ -336,7 +342,7 @@ impl Client {
     ) -> Result<(), ClientFault>
         ensures done { OnOk result (Does (on_granted cluster.now tx self.old key.now (record { dc = dc; version = version; value = value.now }))
             self.new out.old out.new lines.old lines.new) }
-        ensures worn { IsErrOf result KeyWornOut → (on_granted cluster.now tx self.old key.now (record { dc = dc; version = version; value = value.now })).worn ≡ true }
+        ensures worn { IsErrOf result KeyWornOut → (on_granted cluster.now tx self.old key.now (record { dc = dc; version = version; value = value.now })).refused ≡ Some IsWornOut }
     {
         if !self.phase.reads_on() {
             return Ok(());
@@ -426,7 +432,7 @@ impl Client {
         lines.push(Line::Refused(tx, dc, reason.copy()))
     }
 
-    /// What the client does when a message comes.
+    /// What the client does when a message comes. It ignores those of other transactions.
     pub fn handle(
         &mut self,
         cluster: &Cluster,
@@ -436,30 +442,33 @@ impl Client {
         lines: &mut Lines,
     ) -> Result<(), ClientFault>
         ensures done { OnOk result (Does (client_row cluster.now tx self.old msg.now) self.new out.old out.new lines.old lines.new) }
-        ensures worn { IsErrOf result KeyWornOut → (client_row cluster.now tx self.old msg.now).worn ≡ true }
+        ensures worn { IsErrOf result KeyWornOut → (client_row cluster.now tx self.old msg.now).refused ≡ Some IsWornOut }
     {
         match msg {
-            Msg::Granted(_, key, dc, version, value) => {
-                if !is_dc(cluster, *dc) {
+            Msg::Granted(of, key, dc, version, value) => {
+                if !concerns(cluster, tx, *of, *dc) {
                     return Ok(());
                 }
                 self.on_granted(cluster, tx, key, *dc, *version, value, out, lines)
             }
-            Msg::Voted(_, ballot, dc, decision) => {
-                if !is_dc(cluster, *dc) {
+            Msg::Voted(of, ballot, dc, decision) => {
+                if !concerns(cluster, tx, *of, *dc) {
                     return Ok(());
                 }
                 self.on_voted(cluster, tx, *ballot, *dc, decision, lines)?;
                 Ok(())
             }
-            Msg::Refused(_, ballot, dc, reason) => {
-                if !is_dc(cluster, *dc) {
+            Msg::Refused(of, ballot, dc, reason) => {
+                if !concerns(cluster, tx, *of, *dc) {
                     return Ok(());
                 }
                 self.on_refused(cluster, tx, *ballot, *dc, reason, out, lines)?;
                 Ok(())
             }
-            Msg::Decided(_, decision) => {
+            Msg::Decided(of, decision) => {
+                if *of != tx {
+                    return Ok(());
+                }
                 self.on_decided(tx, decision, lines)?;
                 Ok(())
             }

@@ -2,8 +2,8 @@
 ghost use Rattle.std.specs.Prelude.{◌≡◌, ◌+◌, ◌==◌, ◌++◌, [], None, Some, length, if◌then◌else◌, OnOk, IfOk};
 ghost use Rattle.rc_ids.specs.Cluster.{is_dc as is_dc_lem};
 ghost use Rattle.rc_msg.specs.declared.msg.Msg.TheVariants.{CatchAsk};
-ghost use Rattle.rc_protocol.specs.Messages.{one, coordinator as coordinator_lem};
-ghost use Rattle.rc_protocol.specs.Coordinator.{coord_stays, most_entries, place_of, page_from, is_next_page, undecided as undecided_lem, outcomes_record as outcomes_record_lem, asks_next as asks_next_lem, takes_page as takes_page_lem, with_place, do_catch, on_catch_ask as on_catch_ask_lem, on_catch_page as on_catch_page_lem};
+ghost use Rattle.rc_protocol.specs.Messages.{one, most_entries, coordinator as coordinator_lem};
+ghost use Rattle.rc_protocol.specs.Coordinator.{coord_stays, place_of, page_from, is_next_page, undecided as undecided_lem, outcomes_record as outcomes_record_lem, asks_next as asks_next_lem, takes_page as takes_page_lem, with_place, do_catch, on_catch_ask as on_catch_ask_lem, on_catch_page as on_catch_page_lem};
 ghost use Rattle.rc_coord.specs.Rows.{Does};
 
 use crate::counts::{dc_count, is_dc};

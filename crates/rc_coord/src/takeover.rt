@@ -178,7 +178,7 @@ impl TakeOver {
             has_proposed: true,
             heard: self.heard,
             silent: self.silent,
-            best: self.best,
+            best: None,
         }
     }
 }

@@ -2,4 +2,3 @@
 pub mod CountFacts
 pub mod ChoiceFacts
 pub mod RowFacts
-pub mod ShownFacts

@@ -1,4 +1,3 @@
 -- What the contracts of this crate cite.
-pub mod Shown
 pub mod TakeOvers
 pub mod Choices

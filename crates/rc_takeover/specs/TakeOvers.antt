@@ -14,17 +14,6 @@ use Rattle.rc_takeover.specs.declared.answers.Would.{Would}
 use Rattle.rc_takeover.specs.declared.answers.Would.TheVariants.{Ignored as WouldIgnore, Waiting as WouldWait, Abort as WouldAbort, Reported as WouldReport}
 use Rattle.rc_takeover.specs.Choices.{choice}
 
--- once it has proposed, all rows ignore it: what was reported to it is forgotten
-abbrev pub shown : TakeOver → TakeOver
-shown k = record {
-  ballot = k.ballot;
-  is_eager = k.is_eager;
-  has_proposed = k.has_proposed;
-  heard = k.heard;
-  silent = k.silent;
-  best = if k.has_proposed then None else k.best;
-}
-
 -- how many datacentres there are, their weights, and the take-over
 pub record KeptTakeOver : Type 0 where
   pub dcs : ℕ
@@ -33,7 +22,7 @@ pub record KeptTakeOver : Type 0 where
 
 -- a take-over of the rows, as it is kept
 abbrev pub kept : Layout → TakeOver → KeptTakeOver
-kept c k = record { dcs = c.dcs; weights = c.weights; state = shown k }
+kept c k = record { dcs = c.dcs; weights = c.weights; state = k }
 
 -- the same with another state
 abbrev pub with_state : KeptTakeOver → TakeOver → KeptTakeOver
@@ -49,7 +38,7 @@ waits_for k from = not k.has_proposed && not (member nat_cmp k.heard from)
 
 -- it proposes, if it is time to
 abbrev pub gone_on : Layout → TakeOver → TakeOver
-gone_on c k = maybe (chooses c k) k (λ _. shown (proposed k))
+gone_on c k = maybe (chooses c k) k (λ _. proposed k)
 
 abbrev pub said : Option Decision → Heard
 said chosen = maybe chosen Waiting Propose
@@ -107,8 +96,6 @@ promised c k from report =
 
 -- a take-over as it is kept is the take-over of the rows
 pub record IsTakeOver (c : Layout) : Type 0 where
-  -- the same datacentres are waited for
-  pub waits : (k : TakeOver) (from : ℕ) → waits_for (kept c k).state from ≡ waits_for k from
   -- it says what the rows propose, and keeps what they make of it
   pub says : (k : TakeOver) (from : ℕ) (report : Option (ℕ × Decision))
       → heard_by (kept c k) from report ≡ (if waits_for k from then said (chooses c (hears k from report)) else Ignored)

@@ -6,8 +6,7 @@ ghost use Rattle.rc_ids.specs.Cluster.{Layout, is_dc, next_ballot};
 ghost use Rattle.rc_body.specs.declared.decision.Decision.{Decision as DecisionOf};
 ghost use Rattle.rc_protocol.specs.Coordinator.{opening, hears, chooses, proposed};
 ghost use Rattle.rc_takeover.specs.Choices.{choice as choice_lem, proposal as proposal_lem};
-ghost use Rattle.rc_takeover.specs.Shown.{RowsAreAlike};
-ghost use Rattle.rc_takeover.specs.TakeOvers.{kept, shown, with_state, cluster_of, waits_for as waits_for_lem, gone_on, said, heard_by, after_promise, seen, foretold, foretells, IsTakeOver, KeptTakeOver};
+ghost use Rattle.rc_takeover.specs.TakeOvers.{kept, with_state, cluster_of, waits_for as waits_for_lem, gone_on, said, heard_by, after_promise, seen, foretold, foretells, IsTakeOver, KeptTakeOver};
 
 use crate::choice::{Choice, chosen, proposal};
 use crate::reports::{better, silent_after, would_report};
@@ -141,7 +140,7 @@ impl Takeover {
     /// Proposes what is chosen of its reports, and forgets them.
     fn propose(&mut self, choice: Choice) -> Decision
         ensures decision { result ≡ proposal_lem choice self.old.state.best }
-        ensures after { self.new ≡ with_state self.old (shown (proposed self.old.state)) }
+        ensures after { self.new ≡ with_state self.old (proposed self.old.state) }
     {
         self.has_proposed = true;
         proposal(choice, self.best.take())
@@ -163,10 +162,8 @@ impl Takeover {
     }
 }
 
-/// A take-over as it is kept is the take-over of the coordinator's rows, which do the same once proposed ones forgot their
-/// reports; and what is told beforehand is said.
+/// A take-over as it is kept is the take-over of the coordinator's rows; and what is told beforehand is said.
 pub fn takeover_laws()
     ensures kept { (c : Layout) → IsTakeOver c }
-    ensures rows { (c : Layout) (d : ℕ) → RowsAreAlike c d }
     ensures told { (k : KeptTakeOver) (from : ℕ) (report : Option (ℕ × DecisionOf)) → heard_by k from report ≡ foretells (foretold k from report) }
 {}

@@ -1,10 +1,8 @@
 use Rattle.rc_takeover.proofs.RowFacts.{is_take_over, told}
-use Rattle.rc_takeover.proofs.ShownFacts.{rows_are_alike}
 use Rattle.rc_takeover.proofs.takeover.takeover_laws.Goals as goal
 
 pub returns : goal.returns
 returns c = record {
   kept = is_take_over;
-  rows = rows_are_alike;
   told = told;
 }
