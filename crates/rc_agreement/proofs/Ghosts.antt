@@ -182,10 +182,13 @@ haunted_kept Gone P m =
           };
       clients = λ s u x a is due h. let y : Client = (client_by_row s.parties.layout u x a).after in record {
         ghost = k.clients s u x a is due h.ghost;
-        gone = λ t z i. let g = h.gone t z i in (g.0, ⊎_elim
-            (λ (e : (t ≡ u) × (found nat_cmp (replaced h.ghost.clients u y) t ≡ Some y)). absurd (other_name s.parties.start.named t u g.0 (h.new u x is) e.0))
-            (λ (e : (t ≡ u → ⊥) × (found nat_cmp (replaced h.ghost.clients u y) t ≡ found nat_cmp h.ghost.clients t)). e.1 ∙ g.1)
-            (set_cases t u y x h.ghost.clients (h.ghost.known u x is)));
+        gone = λ t z i. let g = h.gone t z i in (
+          g.0,
+          ⊎_elim
+              (λ (e : (t ≡ u) × (found nat_cmp (replaced h.ghost.clients u y) t ≡ Some y)). absurd (other_name s.parties.start.named t u g.0 (h.new u x is) e.0))
+              (λ (e : (t ≡ u → ⊥) × (found nat_cmp (replaced h.ghost.clients u y) t ≡ found nat_cmp h.ghost.clients t)). e.1 ∙ g.1)
+              (set_cases t u y x h.ghost.clients (h.ghost.known u x is)),
+        );
         said = still s.sent h.ghost.sent (envelopes (client_of u) (client_by_row s.parties.layout u x a).sends) h.said;
         new = λ t z i. ⊎_elim
             (λ (e : (t ≡ u) × (found nat_cmp (replaced s.parties.clients u y) t ≡ Some y)). subst (λ n. member nat_cmp s.parties.start.named n ≡ false) (sym e.0) (h.new u x is))

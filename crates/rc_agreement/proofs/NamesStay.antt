@@ -1,5 +1,5 @@
 -- A transaction that a log names is named ever after: logs grow at their end, and a life begins with those of the one before.
-use Rattle.std.proofs.Common.{◌≡◌, ℕ, zero, suc, List, [], ◌∷◌, ◌++◌, refl, sym, ap, ◌∙◌, subst, Bool, true, Option, Some, None, ⊎_elim, true≢false, inl, inr}
+use Rattle.std.proofs.Common.{◌≡◌, ℕ, zero, suc, List, [], ◌∷◌, ◌++◌, refl, sym, ap, ◌∙◌, subst, Bool, true, Option, Some, None, ⊎_elim}
 use Rattle.std.specs.Prelude.{map, slice_get, slice_set, ◌||◌}
 use Rattle.std.specs.Ordering.{nat_cmp}
 use Rattle.std.specs.List.{list_any}
@@ -11,9 +11,9 @@ use Rattle.rc_runs.specs.World.{World, Parties, Start, coord_at, shard_at, with_
 use Rattle.rc_runs.specs.Refusals.{Happening, run}
 use Rattle.rc_claims.specs.Outcomes.{is_named}
 use Rattle.rc_claims.specs.Lives.{reopened}
-use Rattle.rc_agreement.proofs.Cases.{never, some_is, or_case, or_left, or_right}
+use Rattle.rc_agreement.proofs.Cases.{some_is, or_case, or_left, or_right}
 use Rattle.rc_agreement.proofs.Places.{coord_dc, shard_there}
-use Rattle.rc_agreement.proofs.Scenes.{Scene, scene, at, shard_in, There, ThereIs, act_of, shard_act_of, Keeps, run_keeps}
+use Rattle.rc_agreement.proofs.Scenes.{Scene, at, shard_in, act_of, shard_act_of, Keeps, run_keeps}
 use Rattle.rc_agreement.proofs.Named.{log_keeps}
 use Rattle.rc_agreement.proofs.Reopened.{open_node, open_server}
 

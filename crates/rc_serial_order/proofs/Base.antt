@@ -5,7 +5,7 @@ use Rattle.rc_ids.specs.Tables.{In, found, maybe}
 use Rattle.rc_ids.specs.Texts.{key_cmp}
 use Rattle.rc_body.specs.Bodies.{writes}
 use Rattle.rc_body.specs.declared.entry.Entry.{Entry}
-use Rattle.rc_record.specs.ShardState.{version_at, value_at}
+use Rattle.rc_record.specs.ShardState.{version_at}
 use Rattle.rc_serial.specs.OneMap.{base}
 use Rattle.rc_agreement.proofs.Cases.{never}
 use Rattle.rc_agreement.proofs.Tables.{in_map}

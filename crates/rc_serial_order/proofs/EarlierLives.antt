@@ -1,26 +1,17 @@
 -- What earlier lives chose stays chosen, and the map that their logs give holds their writes.
-use Rattle.std.proofs.Common.{◌≡◌, ℕ, ◌+◌, ◌≤◌, List, [], ◌∷◌, ◌++◌, refl, subst, true, Option, Some, inl, inr, ⊎_elim, sym, ◌∙◌}
-use Rattle.std.specs.Prelude.{is_some}
-use Rattle.rc_ids.specs.Tables.{In, found}
-use Rattle.rc_ids.specs.Texts.{key_cmp}
+use Rattle.std.proofs.Common.{◌≡◌, ℕ, List, [], ◌∷◌, refl, subst, inl, inr, ⊎_elim, sym}
+use Rattle.rc_ids.specs.Tables.{In}
 use Rattle.rc_ids.specs.Cluster.{Layout, IsLayout}
-use Rattle.rc_ids.specs.declared.names.Outcome.TheVariants.{Commit as Committed}
 use Rattle.rc_body.specs.declared.entry.Entry.{Entry}
-use Rattle.rc_body.specs.declared.decision.Decision.TheVariants.{Commit}
 use Rattle.rc_runs.specs.World.{World}
 use Rattle.rc_serial.specs.OneMap.{base}
 use Rattle.rc_claims.specs.Outcomes.{all_committed}
 use Rattle.rc_claims.specs.Lives.{IsLife, First, Next}
 use Rattle.rc_agreement.proofs.Tables.{in_left, in_right, in_either}
-use Rattle.rc_agreement.proofs.Scenes.{Scene, scene}
-use Rattle.rc_agreement.proofs.Learning.{Learns}
-use Rattle.rc_agreement.proofs.Longer.{learns_on}
-use Rattle.rc_agreement.proofs.Ghosts.{with_ghosts, Haunted}
-use Rattle.rc_agreement.proofs.Lives.{longer_life, chosen_life}
-use Rattle.rc_serial_order.specs.Earlier.{StaysChosen, HoldsWrites, WasWritten, HasOnlyWrites}
-use Rattle.rc_serial_order.proofs.Serials.{listed_in}
+use Rattle.rc_agreement.proofs.Lives.{chosen_life}
+use Rattle.rc_serial_order.specs.Earlier.{StaysChosen, HoldsWrites, HasOnlyWrites}
 use Rattle.rc_serial_order.proofs.Base.{base_wrote, base_has}
-use Rattle.rc_serial_order.proofs.Histories.{History, Gone, past_of, life_history}
+use Rattle.rc_serial_order.proofs.Histories.{past_of, life_history}
 
 past_in : (earlier : List World) (t : ℕ) (body : List Entry) → In (t, body) (past_of earlier) → (v : World) × In v earlier × In (t, body) v.parties.committed
 past_in [] t body i = absurd i

@@ -1,5 +1,5 @@
 -- What moves keep of parts, reads and the order, of a world that begins with the logs of another, and at the end of every life.
-use Rattle.std.proofs.Common.{◌≡◌, ℕ, List, [], ◌∷◌, ◌++◌, refl, sym, ap, ◌∙◌, subst, Bool, true, Option, Some, None, inl, inr, ⊎_elim, true≢false}
+use Rattle.std.proofs.Common.{◌≡◌, ℕ, List, [], ◌∷◌, ◌++◌, refl, sym, ◌∙◌, subst, Bool, true, Some, None, inl, inr, ⊎_elim, true≢false}
 use Rattle.std.specs.Ordering.{nat_cmp}
 use Rattle.std.proofs.lemmas.List.{append-nil}
 use Rattle.rc_ids.specs.Tables.{In, found, member}
@@ -14,8 +14,6 @@ use Rattle.rc_msg.specs.declared.msg.Msg.{Msg}
 use Rattle.rc_msg.specs.declared.msg.Msg.TheVariants.{ReadAsk, Granted, Propose, Prepare, Prepared}
 use Rattle.rc_msg.specs.declared.msg.Envelope.{Envelope}
 use Rattle.rc_record.specs.declared.record.Record.TheVariants.{Prepared as PartPrepared, Accepted}
-use Rattle.rc_record.specs.ShardState.{ShardDurable}
-use Rattle.rc_protocol.specs.Coordinator.{Gather}
 use Rattle.rc_protocol.specs.Client.{Client}
 use Rattle.rc_protocol.specs.Nodes.{CoordNode, ShardNode}
 use Rattle.rc_runs.specs.World.{World, Start, coord_at, new_world}
@@ -25,7 +23,7 @@ use Rattle.rc_agreement.proofs.Cases.{never}
 use Rattle.rc_agreement.proofs.Places.{logged_there}
 use Rattle.rc_agreement.proofs.Scenes.{Scene, scene, at, shard_in, Keeps, run_keeps}
 use Rattle.rc_agreement.proofs.Said.{Said}
-use Rattle.rc_agreement.proofs.Ballots.{Proposal, Vote}
+use Rattle.rc_agreement.proofs.Ballots.{Vote}
 use Rattle.rc_agreement.proofs.Agreeing.{new_agrees}
 use Rattle.rc_agreement.proofs.Choices.{choice_of}
 use Rattle.rc_agreement.proofs.Learned.{new_heard}
@@ -38,11 +36,11 @@ use Rattle.rc_agreement.proofs.Reopened.{Whole, kept, at_open, server_open, vote
 use Rattle.rc_agreement.proofs.Lives.{named_life}
 use Rattle.rc_serial_order.proofs.Means.{WasPrepared, PartOf, Means, Firm, firm_with}
 use Rattle.rc_serial_order.proofs.Store.{Store, sound_on}
-use Rattle.rc_serial_order.proofs.Stored.{Stored, new_store}
+use Rattle.rc_serial_order.proofs.Stored.{new_store}
 use Rattle.rc_serial_order.proofs.Asking.{Routes, Asking, Curious, curious_kept, new_asking}
 use Rattle.rc_serial_order.proofs.Bodies.{bodies}
 use Rattle.rc_serial_order.proofs.Steps.{Steps}
-use Rattle.rc_serial_order.proofs.Serials.{order_of, Serial, listed_in, one_won, won_chosen, all_learned, learned_ordered, serial_kept, new_serial}
+use Rattle.rc_serial_order.proofs.Serials.{Serial, listed_in, one_won, won_chosen, all_learned, learned_ordered, serial_kept, new_serial}
 
 -- all that is kept
 abbrev pub History : Layout → List (ℕ × List Entry) → Scene → Type 0
@@ -185,9 +183,9 @@ module _ (c : Layout) (lay : IsLayout c) (earlier : List World) (v : World) (sta
   gone_again : (t : ℕ) (x : Client) → Gone (v ∷ earlier) t x → (member nat_cmp start.named t ≡ true) × (found nat_cmp r.clients t ≡ Some x)
   gone_again t x k =
       let both : (is_named v.parties t ≡ true) × (found nat_cmp h.ghost.clients t ≡ Some x) = ⊎_elim
-          (λ (e : v ≡ k.0). (subst (λ (u : World). is_named u.parties t ≡ true) (sym e) k.2, h.ghost.known t x (subst (λ (u : World). found nat_cmp u.parties.clients t ≡ Some x) (sym e) k.3)))
-          (λ (i : In k.0 earlier). (stays k.0 i t k.2, (h.gone t x (k.0, i, k.2, k.3)).1))
-          k.1 in
+      (λ (e : v ≡ k.0). (subst (λ (u : World). is_named u.parties t ≡ true) (sym e) k.2, h.ghost.known t x (subst (λ (u : World). found nat_cmp u.parties.clients t ≡ Some x) (sym e) k.3)))
+      (λ (i : In k.0 earlier). (stays k.0 i t k.2, (h.gone t x (k.0, i, k.2, k.3)).1))
+      k.1 in
       let named = is_start.named t both.0 in
       (named, reopens_found c v start is_start whole t named ∙ both.1)
 
