@@ -1,5 +1,5 @@
 -- A world whose earlier messages and clients are gone is a world that has them still: what every move keeps it keeps of that one too.
-use Rattle.std.proofs.Common.{◌≡◌, ℕ, List, ◌++◌, refl, sym, ◌∙◌, true, false, Option, Some, None, ◌⊎◌, inl, inr, ⊎_elim, true≢false}
+use Rattle.std.proofs.Common.{◌≡◌, ℕ, List, ◌++◌, refl, sym, ◌∙◌, subst, true, false, Option, Some, None, ◌⊎◌, inl, inr, ⊎_elim, true≢false}
 use Rattle.std.specs.Prelude.{◌||◌, is_some}
 use Rattle.std.specs.Ordering.{nat_cmp}
 use Rattle.rc_ids.specs.Tables.{In, Table, found, put, member}
@@ -10,11 +10,12 @@ use Rattle.rc_protocol.specs.Client.{Client, new_client}
 use Rattle.rc_runs.specs.World.{envelopes, replaced}
 use Rattle.rc_runs.specs.Refusals.{is_begun}
 use Rattle.rc_agreement.proofs.Cases.{never}
-use Rattle.rc_agreement.proofs.Tables.{in_left, in_right, in_either, put_cases, set_cases}
+use Rattle.rc_agreement.proofs.Tables.{in_left, in_right, in_either, put_other, put_cases, set_cases}
 use Rattle.rc_protocol.specs.Acts.{NodeCause, Came, Takes, Catches, ClientCause, Hears, Reads, Writes, Commits, Cancels, Retries, Vanishes, client_by_row}
 use Rattle.rc_agreement.proofs.Scenes.{Scene, act_of, shard_act_of, Due, DueTo, DueFor, Half, Nothing, Whole, ShardHalf, Naught, Entire, Keeps}
 use Rattle.rc_agreement.proofs.Agreeing.{not_begun}
 use Rattle.rc_agreement.proofs.Listed.{or_first_false}
+use Rattle.rc_agreement.proofs.Named.{is_old}
 
 abbrev pub with_ghosts : Scene → Table ℕ Client → List Envelope → Scene
 with_ghosts s clients sent = record { parties = record s.parties { clients = clients }; sent = sent }
@@ -141,3 +142,57 @@ ghosts_kept P m =
 
     at_new : (s : Scene) (g : Ghost P s) (t u : ℕ) (x : Client) → t ≡ u → Some new_client ≡ Some x → found nat_cmp (put nat_cmp g.clients u new_client) t ≡ Some x
     at_new s g t u x e k = here_put t u g.clients e ∙ k
+
+-- WHO IS GONE: these clients are among the ghosts as they were left, the names of the start come not again, and of the messages that are
+-- gone only proposals are there still
+pub record Haunted (Gone : ℕ → Client → Type 0) (P : Scene → Type 0) (s : Scene) : Type 0 where
+  pub ghost : Ghost P s
+  pub gone : (t : ℕ) (x : Client) → Gone t x → (member nat_cmp s.parties.start.named t ≡ true) × (found nat_cmp ghost.clients t ≡ Some x)
+  pub said : (e : Envelope) → In e ghost.sent → In e s.sent ⊎ (is_old (λ _. true) e.msg ≡ true)
+  pub new : (t : ℕ) (x : Client) → found nat_cmp s.parties.clients t ≡ Some x → member nat_cmp s.parties.start.named t ≡ false
+
+still : (xs ys zs : List Envelope) → ((e : Envelope) → In e ys → In e xs ⊎ (is_old (λ _. true) e.msg ≡ true)) → (e : Envelope) → In e (ys ++ zs) → In e (xs ++ zs) ⊎ (is_old (λ _. true) e.msg ≡ true)
+still xs ys zs h e i = ⊎_elim (λ a. ⊎_elim (λ old. inl (in_left e xs zs old)) inr (h e a)) (λ b. inl (in_right e xs zs b)) (in_either e ys zs i)
+
+-- a name of the start is not a new one's
+other_name : (named : List ℕ) (t u : ℕ) → member nat_cmp named t ≡ true → member nat_cmp named u ≡ false → t ≡ u → ⊥
+other_name named t u is new same = true≢false (sym is ∙ subst (λ n. member nat_cmp named n ≡ false) (sym same) new)
+
+pub haunted_kept : (Gone : ℕ → Client → Type 0) (P : Scene → Type 0) → Keeps P → Keeps (Haunted Gone P)
+unfolding ghosts_kept
+haunted_kept Gone P m =
+    let k = ghosts_kept P m in
+    record {
+      turns = λ s d a there due h. record { ghost = k.turns s d a there due h.ghost; gone = h.gone; said = still s.sent h.ghost.sent (envelopes (coordinator d) (act_of s d a).sends) h.said; new = h.new };
+      stops = λ s d r there half h. record { ghost = k.stops s d r there half h.ghost; gone = h.gone; said = h.said; new = h.new };
+      starts = λ s d there h. record { ghost = k.starts s d there h.ghost; gone = h.gone; said = h.said; new = h.new };
+      serves = λ s d sh a there due h. record { ghost = k.serves s d sh a there due h.ghost; gone = h.gone; said = still s.sent h.ghost.sent (envelopes (shard_server d sh) (shard_act_of s d sh a).sends) h.said; new = h.new };
+      halts = λ s d sh r there half h. record { ghost = k.halts s d sh r there half h.ghost; gone = h.gone; said = h.said; new = h.new };
+      wakes = λ s d sh there h. record { ghost = k.wakes s d sh there h.ghost; gone = h.gone; said = h.said; new = h.new };
+      begins = λ s u fresh h.
+          let unnamed : member nat_cmp s.parties.start.named u ≡ false = or_first_false (member nat_cmp s.parties.start.named u) (is_some (found nat_cmp s.parties.clients u)) fresh in
+          record {
+            ghost = k.begins s u fresh h.ghost;
+            gone = λ t x i. let g = h.gone t x i in (g.0, put_other t u new_client h.ghost.clients (other_name s.parties.start.named t u g.0 unnamed) ∙ g.1);
+            said = h.said;
+            new = λ t x is. ⊎_elim
+                (λ (e : (t ≡ u) × (found nat_cmp (put nat_cmp s.parties.clients u new_client) t ≡ Some new_client)). subst (λ n. member nat_cmp s.parties.start.named n ≡ false) (sym e.0) unnamed)
+                (λ (e : (t ≡ u → ⊥) × (found nat_cmp (put nat_cmp s.parties.clients u new_client) t ≡ found nat_cmp s.parties.clients t)). h.new t x (sym e.1 ∙ is))
+                (put_cases t u new_client s.parties.clients);
+          };
+      clients = λ s u x a is due h. let y : Client = (client_by_row s.parties.layout u x a).after in record {
+        ghost = k.clients s u x a is due h.ghost;
+        gone = λ t z i. let g = h.gone t z i in (
+          g.0,
+          ⊎_elim
+              (λ (e : (t ≡ u) × (found nat_cmp (replaced h.ghost.clients u y) t ≡ Some y)). absurd (other_name s.parties.start.named t u g.0 (h.new u x is) e.0))
+              (λ (e : (t ≡ u → ⊥) × (found nat_cmp (replaced h.ghost.clients u y) t ≡ found nat_cmp h.ghost.clients t)). e.1 ∙ g.1)
+              (set_cases t u y x h.ghost.clients (h.ghost.known u x is)),
+        );
+        said = still s.sent h.ghost.sent (envelopes (client_of u) (client_by_row s.parties.layout u x a).sends) h.said;
+        new = λ t z i. ⊎_elim
+            (λ (e : (t ≡ u) × (found nat_cmp (replaced s.parties.clients u y) t ≡ Some y)). subst (λ n. member nat_cmp s.parties.start.named n ≡ false) (sym e.0) (h.new u x is))
+            (λ (e : (t ≡ u → ⊥) × (found nat_cmp (replaced s.parties.clients u y) t ≡ found nat_cmp s.parties.clients t)). h.new t z (sym e.1 ∙ i))
+            (set_cases t u y x s.parties.clients is);
+      };
+    }

@@ -1,11 +1,12 @@
 -- The transactions that logs name, and what is left of tables and messages when all others are dropped.
 use Rattle.std.proofs.Common.{◌≡◌, ℕ, List, [], ◌∷◌, refl, sym, ap, ◌∙◌, subst, Bool, true, false, cond, Option, Some, None, inl, inr, ⊎_elim, true≢false}
-use Rattle.std.specs.Prelude.{filter, ◌||◌, slice_get}
+use Rattle.std.specs.Prelude.{filter, slice_get}
 use Rattle.std.specs.List.{list_any}
 use Rattle.std.specs.Ordering.{nat_cmp, is_eq}
 use Rattle.std.specs.FinMap.{nat_cmp-IsAntisymmetric}
 use Rattle.rc_ids.specs.Tables.{In, Table, found, maybe, member, added}
 use Rattle.rc_ids.proofs.QuorumFacts.{member-in}
+use Rattle.rc_body.specs.declared.entry.Entry.{Entry}
 use Rattle.rc_body.specs.declared.decision.Decision.{Decision}
 use Rattle.rc_msg.specs.declared.msg.Msg.{Msg}
 use Rattle.rc_msg.specs.declared.msg.Msg.TheVariants.{Propose}
@@ -13,12 +14,12 @@ use Rattle.rc_msg.specs.declared.msg.Envelope.{Envelope}
 use Rattle.rc_record.specs.declared.record.Record.{Record}
 use Rattle.rc_record.specs.declared.record.Record.TheVariants.{Head, Prepared, Finished, Promised, Accepted, Decided}
 use Rattle.rc_protocol.specs.Client.{Client}
-use Rattle.rc_protocol.specs.Nodes.{CoordNode, coord_index, coord_started, with_txs, with_named, with_log}
-use Rattle.rc_runs.specs.World.{Parties, coord_at}
+use Rattle.rc_protocol.specs.Nodes.{CoordNode, ShardNode, coord_index, shard_index, coord_started, shard_started, with_txs, with_named, with_log}
+use Rattle.rc_runs.specs.World.{Parties, coord_at, shard_at}
 use Rattle.rc_claims.specs.Outcomes.{is_named}
-use Rattle.rc_agreement.proofs.Cases.{on_cond, never, or_right}
+use Rattle.rc_agreement.proofs.Cases.{on_cond, never, or_left, or_right}
 use Rattle.rc_agreement.proofs.Tables.{added_has, got_in, to_equal}
-use Rattle.rc_agreement.proofs.Places.{node_at, coord_dc}
+use Rattle.rc_agreement.proofs.Places.{node_at, server_at, coord_dc, shard_there}
 use Rattle.rc_agreement.proofs.Said.{Said}
 
 -- NAMES
@@ -46,6 +47,10 @@ pub vote_names : (t b : ℕ) (o : Decision) → Names t (Accepted t b o)
 unfolding Names
 vote_names t b o named = added_has t t named (inl refl)
 
+pub part_names : (t : ℕ) (p : List Entry) → Names t (Prepared t p)
+unfolding Names
+part_names t p named = added_has t t named (inl refl)
+
 log_names : (t : ℕ) (r : Record) → Names t r → (rs : List Record) (named : List ℕ) → In r rs → In t (with_log named rs)
 unfolding Names
 log_names t r n [] named h = absurd h
@@ -56,10 +61,6 @@ any_in : {A : Type 0} (p : A → Bool) (xs : List A) (x : A) → In x xs → p x
 any_in p [] x h e = absurd h
 any_in p (y ∷ xs) x (inl is) e = let z : p y ≡ true = ap p is ∙ e in rw z
 any_in p (y ∷ xs) x (inr h) e = or_right (p y) _ (any_in p xs x h e)
-
-or_left : (a b : Bool) → a ≡ true → (a || b) ≡ true
-or_left true b e = refl
-or_left false b e = absurd (true≢false (sym e))
 
 -- what stands in a coordinator's log is named
 pub coord_named : (w : Parties) (d t : ℕ) (r : Record) → Names t r → In r (node_at w d).log → is_named w t ≡ true
@@ -72,6 +73,18 @@ coord_named w d t r n h = go (coord_at w d) refl h
         let got : slice_get w.coords (coord_index d) ≡ Some x = rw dc at is in
         or_left (list_any (λ (y : CoordNode). member nat_cmp (with_log [] y.log) t) w.coords) _
         (any_in (λ (y : CoordNode). member nat_cmp (with_log [] y.log) t) w.coords x (got_in w.coords (coord_index d) x got) (member-in (with_log [] x.log) t (log_names t r n x.log [] h)))
+
+-- and in a shard server's
+pub shard_named : (w : Parties) (d sh t : ℕ) (r : Record) → Names t r → In r (server_at w d sh).log → is_named w t ≡ true
+shard_named w d sh t r n h = go (shard_at w d sh) refl h
+  where
+    go : (o : Option ShardNode) → shard_at w d sh ≡ o → In r (maybe o (shard_started []) (λ x. x)).log → is_named w t ≡ true
+    go None is h = absurd h
+    go (Some x) is h =
+        let there = shard_there w d sh x is in
+        let got : slice_get w.shards (shard_index w.layout d sh) ≡ Some x = rw there at is in
+        or_right (list_any (λ (y : CoordNode). member nat_cmp (with_log [] y.log) t) w.coords) _
+        (any_in (λ (y : ShardNode). member nat_cmp (with_log [] y.log) t) w.shards x (got_in w.shards (shard_index w.layout d sh) x got) (member-in (with_log [] x.log) t (log_names t r n x.log [] h)))
 
 -- WHAT IS LEFT of clients
 pub found_filter : (p : ℕ → Bool) (t : ℕ) (m : Table ℕ Client) → ((x : Client) → found nat_cmp (filter (λ (e : ℕ × Client). p e.0) m) t ≡ Some x → p t ≡ true)

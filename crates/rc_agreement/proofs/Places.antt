@@ -67,7 +67,7 @@ put_each Q w d x y r is all one e =
     (nat_dec e d)
 
 -- SHARD SERVERS
-shard_there : (w : Parties) (d s : ℕ) (x : ShardNode) → shard_at w d s ≡ Some x → (is_dc w.layout d && is_shard w.layout s) ≡ true
+pub shard_there : (w : Parties) (d s : ℕ) (x : ShardNode) → shard_at w d s ≡ Some x → (is_dc w.layout d && is_shard w.layout s) ≡ true
 shard_there w d s x = go (is_dc w.layout d && is_shard w.layout s)
   where
     go : (b : Bool) → cond b (slice_get w.shards (shard_index w.layout d s)) None ≡ Some x → b ≡ true

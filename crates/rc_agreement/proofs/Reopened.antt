@@ -25,6 +25,7 @@ use Rattle.rc_runs.specs.World.{World, Start}
 use Rattle.rc_claims.specs.Lives.{IsStartOf, reopened}
 use Rattle.rc_agreement.proofs.Cases.{never}
 use Rattle.rc_agreement.proofs.Scenes.{Scene, scene, at, shard_in}
+use Rattle.rc_agreement.proofs.Said.{Said}
 use Rattle.rc_agreement.proofs.Promises.{Covers, replayed}
 use Rattle.rc_agreement.proofs.Ballots.{Within, Proposal, Vote, promise_at, Fine}
 use Rattle.rc_agreement.proofs.Agreeing.{AllAgree}
@@ -206,3 +207,21 @@ module _ (c : Layout) (v : World) (start : Start) (is_start : IsStartOf v start)
   pub reopens_old : (e : Envelope) → In e reopens.sent → is_old kept e.msg ≡ true
   unfolding reopens
   reopens_old e i = (old_in kept g.sent e i).1
+
+  -- what they say is what was said
+  pub reopens_up : (t b : ℕ) (o : Decision) → kept t ≡ true → Proposal t s b o → Said reopens.sent (Propose t b o)
+  unfolding reopens
+  reopens_up t b o n h = up t b o n h
+
+  pub reopens_down : (t b : ℕ) (o : Decision) → Said reopens.sent (Propose t b o) → Proposal t s b o × (kept t ≡ true)
+  unfolding reopens
+  reopens_down t b o h = said_old kept g.sent (Propose t b o) h
+
+  -- and of the clients those that were named
+  pub reopens_client : (t : ℕ) (x : Client) → found nat_cmp reopens.clients t ≡ Some x → (found nat_cmp g.clients t ≡ Some x) × (kept t ≡ true)
+  unfolding reopens
+  reopens_client t x is = (client_was t x is, (found_filter kept t g.clients).0 x is)
+
+  pub reopens_found : (t : ℕ) → kept t ≡ true → found nat_cmp reopens.clients t ≡ found nat_cmp g.clients t
+  unfolding reopens
+  reopens_found t n = (found_filter kept t g.clients).1 n

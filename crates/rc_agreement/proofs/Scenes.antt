@@ -4,7 +4,6 @@ use Rattle.std.specs.Prelude.{◌&&◌, is_none, ◌==◌, ◌-◌}
 use Rattle.std.specs.Ordering.{nat_cmp}
 use Rattle.std.proofs.lemmas.List.{append-nil}
 use Rattle.rc_ids.specs.Tables.{Table, In, found, maybe}
-use Rattle.rc_ids.specs.Cluster.{Layout}
 use Rattle.rc_ids.specs.declared.names.NodeId.{NodeId}
 use Rattle.rc_ids.specs.declared.names.NodeId.TheVariants.{Coord, Shard as ShardServer}
 use Rattle.rc_ids.specs.declared.names.Party.{Party}

@@ -33,7 +33,7 @@ use Rattle.rc_agreement.proofs.Ghosts.{Ghost, ghosts_kept}
 pub longer_self : (s : Scene) → Longer s s
 longer_self s = record { layout = refl; votes = λ t e b o v. v }
 
-longer_trans : (s m z : Scene) → Longer s m → Longer m z → Longer s z
+pub longer_trans : (s m z : Scene) → Longer s m → Longer m z → Longer s z
 longer_trans s m z p q = record { layout = q.layout ∙ p.layout; votes = λ t e b o v. q.votes t e b o (p.votes t e b o v) }
 
 silent_act : Option Record → CoordAct

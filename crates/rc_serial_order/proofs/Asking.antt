@@ -1,7 +1,7 @@
 -- What is granted was asked, at the shard of its key.
-use Rattle.std.proofs.Common.{◌≡◌, ℕ, List, [], ◌∷◌, ◌++◌, refl, sym, ◌∙◌, subst, Some, inl, inr, ⊎_elim}
+use Rattle.std.proofs.Common.{◌≡◌, ℕ, List, [], ◌∷◌, ◌++◌, refl, sym, ◌∙◌, subst, false, Some, inl, inr, ⊎_elim}
 use Rattle.std.specs.Ordering.{nat_cmp}
-use Rattle.rc_ids.specs.Tables.{In, found, put}
+use Rattle.rc_ids.specs.Tables.{In, found, put, member}
 use Rattle.rc_ids.specs.Cluster.{Layout, IsLayout, shard_of}
 use Rattle.rc_ids.specs.Quorum.{QuorumLaws}
 use Rattle.rc_ids.specs.declared.names.Party.{Party}
@@ -44,10 +44,14 @@ routes_on c sent more to _ h = tt
 abbrev pub AskedBy : List Envelope → ℕ → List Slot → Type 0
 AskedBy sent t xs = Sound (λ k g. Said sent (ReadAsk t k)) (λ k v y. Said sent (ReadAsk t k)) xs
 
+-- the logs of earlier lives name it not
+abbrev pub IsNew : Scene → ℕ → Type 0
+IsNew s t = member nat_cmp s.parties.start.named t ≡ false
+
 pub record Asking (s : Scene) : Type 0 where
   pub says : (e : Envelope) → In e s.sent → Routes s.parties.layout s.sent e.to e.msg
   pub waits : (d sh : ℕ) (k : List ℕ) (t : ℕ) → In (k, t) (shard_in s d sh).volatile.waiting → (sh ≡ shard_of s.parties.layout k) × Said s.sent (ReadAsk t k)
-  pub clients : (t : ℕ) (x : Client) → found nat_cmp s.parties.clients t ≡ Some x → AskedBy s.sent t x.slots
+  pub clients : (t : ℕ) (x : Client) → IsNew s t → found nat_cmp s.parties.clients t ≡ Some x → AskedBy s.sent t x.slots
 
 asked_on : (sent more : List Envelope) (t : ℕ) (xs : List Slot) → AskedBy sent t xs → AskedBy (sent ++ more) t xs
 asked_on sent more t xs h = record {
@@ -84,7 +88,7 @@ module _ (s : Scene) (h : Asking s) (d sh : ℕ) (there : ThereIs s d sh) (k : N
         waits = put_server (λ e eh (n : ShardNode). (q : List ℕ) (t : ℕ) → In (q, t) n.volatile.waiting → (eh ≡ shard_of s.parties.layout q) × Said (s.sent ++ ms) (ReadAsk t q)) s.parties d sh (shard_in s d sh) (shard_after (shard_in s d sh) (shard_act_of s d sh k)) there
             (λ e eh _ q t i. let w = h.waits e eh q t i in (w.0, said_more s.sent ms (ReadAsk t q) w.1))
             (λ q t i. let w = asked q t (row.waits q t i) in (w.0, said_more s.sent ms (ReadAsk t q) w.1));
-        clients = λ t x is. asked_on s.sent ms t x.slots (h.clients t x is);
+        clients = λ t x new is. asked_on s.sent ms t x.slots (h.clients t x new is);
       }
 
 quiet_shard : (s : Scene) → Asking s → (d sh : ℕ) → ThereIs s d sh → (x : ShardNode) → x.volatile ≡ new_shard_volatile → Asking (record { parties = with_shard s.parties d sh x; sent = s.sent })
@@ -116,7 +120,7 @@ coord_asking s h d k x =
           (λ new. so_routes s.parties.layout s.parties.layout d (s.sent ++ ms) e.to e.msg (act_of s d k).after ((coord_says_so s.parties.layout d (at s d).durable (at s d).volatile k).says.each e.to e.msg new.0))
           (in_sent s.sent (coordinator d) (act_of s d k).sends e i);
       waits = λ e eh q t i. let w = h.waits e eh q t i in (w.0, said_more s.sent ms (ReadAsk t q) w.1);
-      clients = λ t y is. asked_on s.sent ms t y.slots (h.clients t y is);
+      clients = λ t y new is. asked_on s.sent ms t y.slots (h.clients t y new is);
     }
 
 pub in_granted : (gs : List Grant) (d : ℕ) → In d (granted_by gs) → (g : Grant) × In g gs × (g.dc ≡ d)
@@ -140,10 +144,10 @@ module _ (s : Scene) (laws : QuorumLaws s.parties.layout) (h : Asking s) (u : �
   grants_in Retries b = tt
   grants_in Vanishes b = tt
 
-  sound : AskedBy s.sent u (client_by_row s.parties.layout u x k).after.slots
-  sound = slots_kept s.parties.layout (λ q g. Said s.sent (ReadAsk u q)) (λ q v y. Said s.sent (ReadAsk u q))
+  sound : IsNew s u → AskedBy s.sent u (client_by_row s.parties.layout u x k).after.slots
+  sound new = slots_kept s.parties.layout (λ q g. Said s.sent (ReadAsk u q)) (λ q v y. Said s.sent (ReadAsk u q))
       (λ q gs enough each. let m = laws.share (granted_by gs) (granted_by gs) enough enough in let g = in_granted gs m.0 m.1 in each g.0 g.1)
-      u x (h.clients u x is) k (grants_in k due)
+      u x (h.clients u x new is) k (grants_in k due)
 
   pub client_asking : Asking (acted s u (client_by_row s.parties.layout u x k))
   client_asking =
@@ -155,11 +159,11 @@ module _ (s : Scene) (laws : QuorumLaws s.parties.layout) (h : Asking s) (u : �
             (λ new. mild_routes s.parties.layout (s.sent ++ ms) e.to e.msg ((client_keeps s.parties.layout u x k (ready_for s u x k due)).drab.each e.to e.msg new.0))
             (in_sent s.sent (client_of u) (client_by_row s.parties.layout u x k).sends e i);
         waits = λ e eh q t i. let w = h.waits e eh q t i in (w.0, said_more s.sent ms (ReadAsk t q) w.1);
-        clients = λ t z i. ⊎_elim
+        clients = λ t z new i. ⊎_elim
             (λ (e : (t ≡ u) × (found nat_cmp (replaced s.parties.clients u y) t ≡ Some y)).
             let f : y ≡ z = some_is y z (sym e.1 ∙ i) in
-            subst (λ (q : ℕ × Client). AskedBy (s.sent ++ ms) q.0 q.1.slots) (λ j. (sym e.0 j, f j)) (asked_on s.sent ms u y.slots sound))
-            (λ (e : (t ≡ u → ⊥) × (found nat_cmp (replaced s.parties.clients u y) t ≡ found nat_cmp s.parties.clients t)). asked_on s.sent ms t z.slots (h.clients t z (sym e.1 ∙ i)))
+            subst (λ (q : ℕ × Client). AskedBy (s.sent ++ ms) q.0 q.1.slots) (λ j. (sym e.0 j, f j)) (asked_on s.sent ms u y.slots (sound (subst (IsNew s) e.0 new))))
+            (λ (e : (t ≡ u → ⊥) × (found nat_cmp (replaced s.parties.clients u y) t ≡ found nat_cmp s.parties.clients t)). asked_on s.sent ms t z.slots (h.clients t z new (sym e.1 ∙ i)))
             (set_cases t u y x s.parties.clients is);
       }
 
@@ -168,10 +172,10 @@ begin_asking s u h =
     record {
       says = h.says;
       waits = h.waits;
-      clients = λ t y i. ⊎_elim
+      clients = λ t y new i. ⊎_elim
           (λ (e : (t ≡ u) × (found nat_cmp (put nat_cmp s.parties.clients u new_client) t ≡ Some new_client)).
           let z : new_client ≡ y = some_is new_client y (sym e.1 ∙ i) in subst (λ (q : Client). AskedBy s.sent t q.slots) z (record { each = λ x i. absurd i; differ = tt }))
-          (λ (e : (t ≡ u → ⊥) × (found nat_cmp (put nat_cmp s.parties.clients u new_client) t ≡ found nat_cmp s.parties.clients t)). h.clients t y (sym e.1 ∙ i))
+          (λ (e : (t ≡ u → ⊥) × (found nat_cmp (put nat_cmp s.parties.clients u new_client) t ≡ found nat_cmp s.parties.clients t)). h.clients t y new (sym e.1 ∙ i))
           (put_cases t u new_client s.parties.clients);
     }
 
@@ -199,5 +203,5 @@ new_asking c =
     record {
       says = λ e i. absurd i;
       waits = λ d sh k t. subst (λ (n : ShardNode). In (k, t) n.volatile.waiting → (sh ≡ shard_of s.parties.layout k) × Said s.sent (ReadAsk t k)) (sym (new_server c d sh)) (λ i. absurd i);
-      clients = λ t x is. never x is;
+      clients = λ t x new is. never x is;
     }

@@ -107,7 +107,7 @@ writer_above at (x ∷ o) k y e h i j q =
     (λ (a : In y o). let v = writer_above (λ j. at j + cond (writes j x) 1 0) o k y e h.1 a j q in omega (arith, v)) i
 
 -- two writers of one version of a key are one entry
-one_writer : (at : List ℕ → ℕ) (o : List (List Entry)) → Steps at o → AllApart o → (y z : List Entry) (e f : Entry) → In y o → In z o → In e y → In f z → e.key ≡ f.key
+pub one_writer : (at : List ℕ → ℕ) (o : List (List Entry)) → Steps at o → AllApart o → (y z : List Entry) (e f : Entry) → In y o → In z o → In e y → In f z → e.key ≡ f.key
     → is_some e.write ≡ true → is_some f.write ≡ true → e.version ≡ f.version → e ≡ f
 one_writer at [] h a y z e f iy iz ie jf q we wf v = absurd iy
 one_writer at (x ∷ o) h a y z e f iy iz ie jf q we wf v =

@@ -1,5 +1,5 @@
--- A read is not older than what was chosen before it was asked for.
-use Rattle.std.proofs.Common.{◌≡◌, ℕ, ◌+◌, ◌≤◌, List, [], ◌∷◌, ◌++◌, refl, sym, ap, ◌∙◌, subst, true, Option, Some, None, arith, inl, inr, ⊎_elim, true≢false}
+-- What is granted to a transaction, for a key for which it had not asked when a commit that writes it was chosen, is not older than that.
+use Rattle.std.proofs.Common.{◌≡◌, ℕ, ◌+◌, ◌≤◌, List, [], ◌∷◌, sym, ap, ◌∙◌, subst, true, Option, Some, None, arith, ⊎_elim, true≢false}
 use Rattle.std.specs.Prelude.{is_some, ◌==◌, nat_lt}
 use Rattle.std.specs.Ordering.{nat_cmp}
 use Rattle.std.proofs.lemmas.Bool.{eq-eqb, ltb-true, ltb-false}
@@ -23,22 +23,18 @@ use Rattle.rc_protocol.specs.Shard.{holder}
 use Rattle.rc_protocol.specs.Coordinator.{CoordVolatile}
 use Rattle.rc_protocol.specs.Client.{Client, Grant, new_client, granted_by, best_grant}
 use Rattle.rc_protocol.specs.Nodes.{ShardNode, applied, shard_after}
-use Rattle.rc_runs.specs.World.{World, replaced, new_world}
-use Rattle.rc_runs.specs.Refusals.{Happening, run}
-use Rattle.rc_claims.specs.Outcomes.{IsFresh}
+use Rattle.rc_runs.specs.World.{replaced}
 use Rattle.rc_agreement.proofs.Cases.{on_cond, some_is}
 use Rattle.rc_agreement.proofs.Tables.{found_in, put_cases, set_cases}
 use Rattle.rc_agreement.proofs.Places.{server_is, shard_set}
 use Rattle.rc_protocol.specs.Acts.{NodeCause, ClientCause, Hears, Reads, Writes, Commits, Cancels, Retries, Vanishes, client_by_row}
-use Rattle.rc_agreement.proofs.Scenes.{Scene, scene, at, shard_in, ThereIs, act_of, DueTo, shard_act_of, DueFor, turned, served, acted, joined_by, Keeps, run_keeps}
+use Rattle.rc_agreement.proofs.Scenes.{Scene, at, shard_in, ThereIs, act_of, DueTo, shard_act_of, DueFor, turned, served, acted, joined_by, Keeps}
 use Rattle.rc_agreement.proofs.Said.{Said}
 use Rattle.rc_agreement.proofs.Ballots.{Vote, one_body}
-use Rattle.rc_agreement.proofs.Agreeing.{laws_at, ready_for, new_agrees}
-use Rattle.rc_agreement.proofs.Learned.{new_heard}
+use Rattle.rc_agreement.proofs.Agreeing.{laws_at, ready_for}
 use Rattle.rc_agreement.proofs.Learning.{Learns, Ended}
 use Rattle.rc_agreement.proofs.Longer.{Longer}
-use Rattle.rc_agreement.proofs.Stays.{longer_self, longer_kept, later_of}
-use Rattle.rc_agreement.proofs.Ordered.{new_ordered}
+use Rattle.rc_agreement.proofs.Stays.{longer_self, longer_kept}
 use Rattle.rc_agreement.proofs.Sends.{in_sent}
 use Rattle.rc_serial_order.proofs.KeyFacts.{filter_in}
 use Rattle.rc_serial_order.proofs.Locking.{no_part}
@@ -47,10 +43,10 @@ use Rattle.rc_serial_order.proofs.CoordSays.{SaysSo, coord_says_so}
 use Rattle.rc_serial_order.proofs.Slots.{Sound, GrantsIn, slots_kept}
 use Rattle.rc_serial_order.proofs.ClientKeeps.{drab_of, client_keeps}
 use Rattle.rc_serial_order.proofs.Bodies.{writes_by, touched_by}
-use Rattle.rc_serial_order.proofs.Stored.{Stored, new_store}
-use Rattle.rc_serial_order.proofs.Serials.{not_both, ordered_learns}
+use Rattle.rc_serial_order.proofs.Stored.{Stored}
+use Rattle.rc_serial_order.proofs.Serials.{not_both}
 use Rattle.rc_serial_order.proofs.AskRows.{Grants}
-use Rattle.rc_serial_order.proofs.Asking.{Routes, Asking, asked, row, in_granted, Curious, curious_kept, new_asking}
+use Rattle.rc_serial_order.proofs.Asking.{Routes, IsNew, Asking, asked, row, in_granted, Curious, curious_kept}
 
 -- t reads k; A voted at b for u's commit of body, whose entry f writes k
 module _ (c : Layout) (lay : IsLayout c) (t u b : ℕ) (A : List ℕ) (k : List ℕ) (body : List Entry) (f : Entry) (fi : In f body) (fk : f.key ≡ k) (fw : is_some f.write ≡ true) where
@@ -235,13 +231,13 @@ module _ (c : Layout) (lay : IsLayout c) (t u b : ℕ) (A : List ℕ) (k : List 
         starts = λ s d there p. (q.starts s d there p.0, record { enough = p.1.enough; votes = votes_on s _ ((longer_kept s).starts s d there (longer_self s)) p.1; grants = p.1.grants; client = p.1.client });
       }
 
-  -- where t has not asked for k
-  pub fresh_start : (s : Scene) → Curious c s → is_quorum s.parties.layout A ≡ true → ((d : ℕ) → In d A → Vote u s d b (Commit body)) → (Said s.sent (ReadAsk t k) → ⊥) → Fresh s
-  fresh_start s p enough votes none = record {
+  -- where t is new and has not asked for k
+  pub fresh_start : (s : Scene) → Curious c s → IsNew s t → is_quorum s.parties.layout A ≡ true → ((d : ℕ) → In d A → Vote u s d b (Commit body)) → (Said s.sent (ReadAsk t k) → ⊥) → Fresh s
+  fresh_start s p new enough votes none = record {
     enough = enough;
     votes = votes;
     grants = λ e i. unasked e.to e.msg (p.1.says e i);
-    client = λ x is. let a = p.1.clients t x is in record {
+    client = λ x is. let a = p.1.clients t x new is in record {
       each = λ y i. let r = a.each y i in record {
         grants = λ g j same _. absurd (none (subst (λ q. Said s.sent (ReadAsk t q)) same (r.grants g j)));
         done = λ v y e same. absurd (none (subst (λ q. Said s.sent (ReadAsk t q)) same (r.done v y e)));
@@ -254,19 +250,3 @@ module _ (c : Layout) (lay : IsLayout c) (t u b : ℕ) (A : List ℕ) (k : List 
       unasked to (Granted x q d v y) r = λ e same i.
           let f : client_of x ≡ client_of t = sym r.0 ∙ e in let z : x ≡ t = (cc) in absurd (none (subst (λ (j : ℕ × List ℕ). Said s.sent (ReadAsk j.0 j.1)) (λ j. (z j, same j)) r.1))
       unasked to _ r = tt
-
-said_envelope : (xs : List Envelope) (m : Msg) → Said xs m → (e : Envelope) × In e xs × (e.msg ≡ m)
-said_envelope [] m h = absurd h
-said_envelope (x ∷ xs) m h = ⊎_elim (λ e. (x, inl refl, e)) (λ j. let r = said_envelope xs m j in (r.0, inr r.1, r.2)) h
-
-pub reads_are_fresh : (c : Layout) → IsLayout c → (hs later : List Happening) → IsFresh (run (new_world c) hs) later
-reads_are_fresh c lay hs later t u k body f version value listed among key write none served =
-    let w : World = run (new_world c) hs in
-    let start : Curious c (scene (new_world c)) = ((((new_agrees c, new_heard c), new_ordered c lay), new_store c), new_asking c) in
-    let p = run_keeps (Curious c) (curious_kept c lay) (new_world c) hs start in
-    let earlier : w.parties.start.committed ≡ [] = (later_of (new_world c) hs).start in
-    let i : In (u, body) w.parties.committed = subst (λ (l : List (ℕ × List Entry)). In (u, body) (l ++ w.parties.committed)) earlier listed in
-    let won = ordered_learns c lay (scene w) p.0 u body i in
-    let first = fresh_start c lay t u won.ballot won.held.set k body f among key write (scene w) p won.held.enough won.held.each (λ s. let e = said_envelope w.sent (ReadAsk t k) s in none e.0 e.1 e.2) in
-    let last = run_keeps (P c lay t u won.ballot won.held.set k body f among key write) (fresh_kept c lay t u won.ballot won.held.set k body f among key write) w later (p, first) in
-    ((last.1.client served.client served.is).each served.slot served.among).done version value served.read served.key

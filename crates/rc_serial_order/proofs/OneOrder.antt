@@ -1,28 +1,32 @@
--- One map, empty at first, explains the order and every read served to its transactions.
-use Rattle.std.proofs.Common.{◌≡◌, ℕ, suc, List, [], ◌∷◌, refl, sym, ap, ◌∙◌, subst, Option, Some, arith, inl, inr, ⊎_elim}
+-- The map that the logs of the start give explains the order, and every read served to its transactions in this life or an earlier one.
+use Rattle.std.proofs.Common.{◌≡◌, ℕ, suc, ◌+◌, List, [], ◌∷◌, refl, sym, ap, ◌∙◌, subst, Option, Some, None, inl, inr, ⊎_elim}
+use Rattle.std.proofs.lemmas.Bool.{eq-eqb}
 use Rattle.std.specs.Ordering.{nat_cmp}
 use Rattle.rc_ids.specs.Tables.{In, found}
 use Rattle.rc_ids.specs.Cluster.{Layout, IsLayout}
 use Rattle.rc_body.specs.declared.entry.Entry.{Entry}
 use Rattle.rc_body.specs.declared.decision.Decision.TheVariants.{Commit}
 use Rattle.rc_protocol.specs.Client.{Client, Slot, Complete, version_read, entry_of, body_of}
-use Rattle.rc_serial.specs.OneMap.{Map, Explains, body_applied}
-use Rattle.rc_runs.specs.World.{World, new_world}
-use Rattle.rc_runs.specs.Refusals.{Happening, run}
+use Rattle.rc_serial.specs.OneMap.{Map, Explains, base, body_applied, wrong_entry, first_wrong}
+use Rattle.rc_record.specs.ShardState.{version_at}
+use Rattle.rc_runs.specs.World.{World}
 use Rattle.rc_claims.specs.Outcomes.{ServedEver, IsSerial}
+use Rattle.rc_claims.specs.Lives.{IsLife}
 use Rattle.rc_agreement.proofs.Cases.{some_is}
-use Rattle.rc_agreement.proofs.Tables.{in_map}
-use Rattle.rc_agreement.proofs.Scenes.{Scene, scene, run_keeps}
-use Rattle.rc_agreement.proofs.Agreeing.{laws_at, new_agrees}
-use Rattle.rc_agreement.proofs.Learned.{new_heard}
-use Rattle.rc_agreement.proofs.Ordered.{new_ordered}
+use Rattle.rc_agreement.proofs.Tables.{in_map, in_left, in_right}
+use Rattle.rc_agreement.proofs.Scenes.{Scene, scene}
+use Rattle.rc_agreement.proofs.Agreeing.{laws_at}
+use Rattle.rc_agreement.proofs.Ghosts.{with_ghosts, Haunted}
 use Rattle.rc_serial_order.proofs.KeyFacts.{map_in}
 use Rattle.rc_serial_order.proofs.Means.{Wrote, learned_proposal}
 use Rattle.rc_serial_order.proofs.Slots.{Differ}
-use Rattle.rc_serial_order.proofs.Stored.{Stored, new_store}
+use Rattle.rc_serial_order.proofs.Stored.{Stored}
+use Rattle.rc_serial_order.proofs.Steps.{Steps, count}
 use Rattle.rc_serial_order.proofs.Bodies.{bodies}
 use Rattle.rc_serial_order.proofs.Explained.{Apart, AllApart, Reads, Sourced, explained}
-use Rattle.rc_serial_order.proofs.Serials.{order_of, Serial, all_learned, learned_ordered, Serialised, serial_kept, new_serial}
+use Rattle.rc_serial_order.proofs.Serials.{order_of, Serial, all_learned, learned_ordered}
+use Rattle.rc_serial_order.proofs.Base.{bodies_more, steps_before, steps_after, base_counts, base_newest, base_above}
+use Rattle.rc_serial_order.proofs.Histories.{History, Gone, past_of, life_history}
 
 -- a read that is complete at t's client
 pub record ReadIn (s : Scene) (t : ℕ) (k : List ℕ) (version : ℕ) (value : Option (List ℕ)) : Type 0 where
@@ -70,26 +74,46 @@ module _ (c : Layout) (lay : IsLayout c) (past : List (ℕ × List Entry)) (s : 
         (λ (a : Wrote s r.slot.key v y). inr (a.body, a.entry, map_in (λ (e : ℕ × List Entry). e.1) (a.tx, a.body) all (learned_ordered c lay s p past h a.tx a.body a.chosen), a.among, a.key ∙ r.key, a.version, a.write, a.some)) w;
   }
 
-  pub explains_all : Explains [] all (ReadIn s)
-  explains_all =
-      explained all (ReadIn s) sourced h.explains (all_apart all (λ t x i. i)) all (λ t x i. i) (all_apart all (λ t x i. i))
-      (λ _. 0) h.explains [] (λ k. refl) (λ y e iy ie we v. absurd (zero_suc e.version v)) (λ k e. refl)
-    where
-      zero_suc : (n : ℕ) → suc n ≡ 0 → ⊥
-      zero_suc n e = omega arith
+  -- what the logs chose is what came before
+  pub explains_order : Explains (base s.parties.start.committed) s.parties.committed (ReadIn s)
+  explains_order =
+      let apart = all_apart all (λ t x i. i) in
+      let later : (t : ℕ) (x : List Entry) → In (t, x) s.parties.committed → In (t, x) all = λ t x i. in_right (t, x) past s.parties.committed i in
+      explained all (ReadIn s) sourced h.explains apart s.parties.committed later (all_apart s.parties.committed later)
+      (λ k. 0 + count k (bodies past))
+      (steps_after (λ _. 0) (bodies past) (bodies s.parties.committed) (subst (Steps (λ _. 0)) (bodies_more past s.parties.committed) h.explains))
+      (base s.parties.start.committed)
+      (base_counts past s.parties.start.committed h.into h.from (steps_before (λ _. 0) (bodies past) (bodies s.parties.committed) (subst (Steps (λ _. 0)) (bodies_more past s.parties.committed) h.explains)))
+      (base_newest past s.parties.start.committed h.into h.from all (λ t x i. in_left (t, x) past s.parties.committed i) h.explains apart)
+      (base_above past s.parties.start.committed h.into h.from)
 
 -- fewer reads are explained too
-pub fewer : (m : Map) (o : List (ℕ × List Entry)) (R S : Reads) → ((t : ℕ) (k : List ℕ) (v : ℕ) (y : Option (List ℕ)) → S t k v y → R t k v y) → Explains m o R → Explains m o S
+fewer : (m : Map) (o : List (ℕ × List Entry)) (R S : Reads) → ((t : ℕ) (k : List ℕ) (v : ℕ) (y : Option (List ℕ)) → S t k v y → R t k v y) → Explains m o R → Explains m o S
 fewer m [] R S h e = tt
 fewer m (x ∷ o) R S h e = (e.0, (λ k v y r. e.1 k v y (h x.0 k v y r)), fewer (body_applied m x.1) o R S h e.2)
 
-pub one_map_explains : (c : Layout) → IsLayout c → (hs : List Happening) → IsSerial [] [] (run (new_world c) hs)
-one_map_explains c lay hs =
-    let w : World = run (new_world c) hs in
-    let start : Serialised c [] (scene (new_world c)) = ((((new_agrees c, new_heard c), new_ordered c lay), new_store c), new_serial c) in
-    let p = run_keeps (Serialised c []) (serial_kept c lay []) (new_world c) hs start in
-    fewer [] w.parties.committed (ReadIn (scene w)) (ServedEver [] w) (λ t k v y r. served t k v y r) (explains_all c lay [] (scene w) p.0 p.1)
-  where
-    served : (t : ℕ) (k : List ℕ) (v : ℕ) (y : Option (List ℕ)) → ServedEver [] (run (new_world c) hs) t k v y → ReadIn (scene (run (new_world c) hs)) t k v y
-    served t k v y (inl r) = record { client = r.client; is = r.is; slot = r.slot; among = r.among; key = r.key; read = r.read }
-    served t k v y (inr r) = absurd r.1
+module _ (c : Layout) (lay : IsLayout c) (earlier : List World) (w : World) (life : IsLife c earlier w) where
+  -- a read served in this life or an earlier one stands at a client that is there, or among the ghosts
+  served : (h : Haunted (Gone earlier) (History c (past_of earlier)) (scene w)) (t : ℕ) (k : List ℕ) (v : ℕ) (y : Option (List ℕ)) → ServedEver earlier w t k v y → ReadIn (with_ghosts (scene w) h.ghost.clients h.ghost.sent) t k v y
+  served h t k v y (inl r) = record { client = r.client; is = h.ghost.known t r.client r.is; slot = r.slot; among = r.among; key = r.key; read = r.read }
+  served h t k v y (inr r) =
+      let g = h.gone t r.3.client (r.0, r.1, r.2, r.3.is) in
+      record { client = r.3.client; is = g.1; slot = r.3.slot; among = r.3.among; key = r.3.key; read = r.3.read }
+
+  pub one_map_explains : IsSerial (base w.parties.start.committed) earlier w
+  one_map_explains =
+      let h = life_history c lay earlier w life in
+      let s : Scene = with_ghosts (scene w) h.ghost.clients h.ghost.sent in
+      fewer (base w.parties.start.committed) w.parties.committed (ReadIn s) (ServedEver earlier w) (served h) (explains_order c lay (past_of earlier) s h.ghost.holds.0.0 h.ghost.holds.1)
+
+-- WHAT IS EXPLAINED has no read that is wrong
+wrong_none : (m : Map) (place : ℕ) (es : List Entry) → ((e : Entry) → In e es → e.version ≡ version_at m e.key) → wrong_entry m place es ≡ None
+wrong_none m place [] h = refl
+wrong_none m place (e ∷ es) h = let is = eq-eqb e.version (version_at m e.key) (h e (inl refl)) in rw is (wrong_none m place es (λ f i. h f (inr i)))
+
+none_wrong : (m : Map) (place : ℕ) (o : List (ℕ × List Entry)) (R : Reads) → Explains m o R → first_wrong m place o ≡ None
+none_wrong m place [] R h = refl
+none_wrong m place (x ∷ o) R h = let none = wrong_none m place x.1 h.0 in rw none (none_wrong (body_applied m x.1) (suc place) o R h.2)
+
+pub no_read_is_wrong : (c : Layout) → IsLayout c → (earlier : List World) (w : World) → IsLife c earlier w → first_wrong (base w.parties.start.committed) 0 w.parties.committed ≡ None
+no_read_is_wrong c lay earlier w life = none_wrong (base w.parties.start.committed) 0 w.parties.committed (ServedEver earlier w) (one_map_explains c lay earlier w life)

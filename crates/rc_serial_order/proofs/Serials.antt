@@ -22,7 +22,7 @@ use Rattle.rc_protocol.specs.Client.{KeyRead, NotRead, UnderWay, Complete, versi
 use Rattle.rc_protocol.specs.Nodes.{CoordNode, logged}
 use Rattle.rc_runs.specs.Votes.{is_listed, is_chosen_at, ordered}
 use Rattle.rc_runs.specs.World.{with_coord, new_world}
-use Rattle.rc_agreement.proofs.Cases.{on_cond}
+use Rattle.rc_agreement.proofs.Cases.{on_cond, or_case}
 use Rattle.rc_agreement.proofs.Tables.{in_left, in_right, in_either, in_map}
 use Rattle.rc_agreement.proofs.Places.{node_is, coord_set, put_each}
 use Rattle.rc_agreement.proofs.Scenes.{Scene, scene, at, shard_in, There, act_of, Keeps}
@@ -48,20 +48,17 @@ order_of past s = past ++ s.parties.committed
 pub record Serial (past : List (ℕ × List Entry)) (s : Scene) : Type 0 where
   pub explains : Steps (λ _. 0) (bodies (order_of past s))
   pub earlier : (t : ℕ) (body : List Entry) → In (t, body) past → Learns s t (Commit body)
-  pub starts : (t : ℕ) → is_listed s.parties.start.committed t ≡ true → (body : List Entry) × In (t, body) past
+  pub into : (t : ℕ) (body : List Entry) → In (t, body) past → In (t, body) s.parties.start.committed
+  pub from : (t : ℕ) (body : List Entry) → In (t, body) s.parties.start.committed → In (t, body) past
 
 differ : Committed ≡ Aborted → ⊥
 differ e = cc
 
-listed_in : (t : ℕ) (xs : List (ℕ × List Entry)) → is_listed xs t ≡ true → (body : List Entry) × In (t, body) xs
+pub listed_in : (t : ℕ) (xs : List (ℕ × List Entry)) → is_listed xs t ≡ true → (body : List Entry) × In (t, body) xs
 listed_in t xs h = let r = any_of (λ (x : ℕ × List Entry). x.0 == t) xs h in let e : r.0.0 ≡ t = eqb-true r.0.0 t r.2 in (r.0.1, subst (λ z. In (z, r.0.1) xs) e r.1)
 
-in_listed : (t : ℕ) (xs : List (ℕ × List Entry)) (body : List Entry) → In (t, body) xs → is_listed xs t ≡ true
+pub in_listed : (t : ℕ) (xs : List (ℕ × List Entry)) (body : List Entry) → In (t, body) xs → is_listed xs t ≡ true
 in_listed t xs body i = any_some (λ (x : ℕ × List Entry). x.0 == t) xs (t, body) i (eq-eqb t t refl)
-
-or_case : (a b : Bool) → (a || b) ≡ true → (a ≡ true) ⊎ (b ≡ true)
-or_case true b e = inl refl
-or_case false b e = inr e
 
 -- OUTCOMES
 module _ (c : Layout) (lay : IsLayout c) (s : Scene) (p : Stored c s) where
@@ -113,9 +110,10 @@ module _ (c : Layout) (lay : IsLayout c) (s : Scene) (p : Stored c s) where
     learned_ordered t x l =
         ⊎_elim
         (λ (a : is_listed s.parties.start.committed t ≡ true).
-        let w = h.starts t a in
-        let e = one_won t w.0 x (h.earlier t w.0 w.1) l in
-        in_left (t, x) past s.parties.committed (subst (λ (y : List Entry). In (t, y) past) e w.1))
+        let w = listed_in t s.parties.start.committed a in
+        let o = h.from t w.0 w.1 in
+        let e = one_won t w.0 x (h.earlier t w.0 o) l in
+        in_left (t, x) past s.parties.committed (subst (λ (y : List Entry). In (t, y) past) e o))
         (λ (a : is_listed s.parties.committed t ≡ true).
         let w = listed_in t s.parties.committed a in
         let e = one_won t w.0 x (ordered_learns t w.0 w.1) l in
@@ -240,7 +238,7 @@ module _ (c : Layout) (lay : IsLayout c) (past : List (ℕ × List Entry)) (s : 
     after (Some (Finished es)) is = h.explains
 
     pub serial_after : Serial past z
-    serial_after = record { explains = after r refl; earlier = λ t body i. learns_on s z longer t (Commit body) (h.earlier t body i); starts = h.starts }
+    serial_after = record { explains = after r refl; earlier = λ t body i. learns_on s z longer t (Commit body) (h.earlier t body i); into = h.into; from = h.from }
 
 -- ALL MOVES
 abbrev pub Serialised : Layout → List (ℕ × List Entry) → Scene → Type 0
@@ -253,12 +251,12 @@ serial_kept c lay past =
       turns = λ s d a there due p. let q = k.turns s d a there due p.0 in (q, serial_after c lay past s p.0 p.1 d there (at s d).up (act_of s d a).logs _ (act_of s d a).after _ q);
       stops = λ s d r there half p. let q = k.stops s d r there half p.0 in (q, serial_after c lay past s p.0 p.1 d there false r _ _ s.sent q);
       starts = λ s d there p. let q = k.starts s d there p.0 in (q, serial_after c lay past s p.0 p.1 d there true None _ _ s.sent q);
-      serves = λ s d sh a there due p. (k.serves s d sh a there due p.0, record { explains = p.1.explains; earlier = λ t body i. let l = p.1.earlier t body i in record { ballot = l.ballot; held = l.held }; starts = p.1.starts });
-      halts = λ s d sh r there half p. (k.halts s d sh r there half p.0, record { explains = p.1.explains; earlier = λ t body i. let l = p.1.earlier t body i in record { ballot = l.ballot; held = l.held }; starts = p.1.starts });
-      wakes = λ s d sh there p. (k.wakes s d sh there p.0, record { explains = p.1.explains; earlier = λ t body i. let l = p.1.earlier t body i in record { ballot = l.ballot; held = l.held }; starts = p.1.starts });
-      begins = λ s u new p. (k.begins s u new p.0, record { explains = p.1.explains; earlier = λ t body i. let l = p.1.earlier t body i in record { ballot = l.ballot; held = l.held }; starts = p.1.starts });
-      clients = λ s u x a is due p. (k.clients s u x a is due p.0, record { explains = p.1.explains; earlier = λ t body i. let l = p.1.earlier t body i in record { ballot = l.ballot; held = l.held }; starts = p.1.starts });
+      serves = λ s d sh a there due p. (k.serves s d sh a there due p.0, record { explains = p.1.explains; earlier = λ t body i. let l = p.1.earlier t body i in record { ballot = l.ballot; held = l.held }; into = p.1.into; from = p.1.from });
+      halts = λ s d sh r there half p. (k.halts s d sh r there half p.0, record { explains = p.1.explains; earlier = λ t body i. let l = p.1.earlier t body i in record { ballot = l.ballot; held = l.held }; into = p.1.into; from = p.1.from });
+      wakes = λ s d sh there p. (k.wakes s d sh there p.0, record { explains = p.1.explains; earlier = λ t body i. let l = p.1.earlier t body i in record { ballot = l.ballot; held = l.held }; into = p.1.into; from = p.1.from });
+      begins = λ s u new p. (k.begins s u new p.0, record { explains = p.1.explains; earlier = λ t body i. let l = p.1.earlier t body i in record { ballot = l.ballot; held = l.held }; into = p.1.into; from = p.1.from });
+      clients = λ s u x a is due p. (k.clients s u x a is due p.0, record { explains = p.1.explains; earlier = λ t body i. let l = p.1.earlier t body i in record { ballot = l.ballot; held = l.held }; into = p.1.into; from = p.1.from });
     }
 
 pub new_serial : (c : Layout) → Serial [] (scene (new_world c))
-new_serial c = record { explains = tt; earlier = λ t body i. absurd i; starts = λ t e. absurd (true≢false (sym e)) }
+new_serial c = record { explains = tt; earlier = λ t body i. absurd i; into = λ t body i. absurd i; from = λ t body i. absurd i }

@@ -30,7 +30,7 @@ use Rattle.rc_agreement.proofs.Sends.{EachTo, in_sent}
 use Rattle.rc_agreement.proofs.Ballots.{Proposal, Vote, Late, Agreeing}
 use Rattle.rc_agreement.proofs.Votes.{new_vote}
 use Rattle.rc_agreement.proofs.CoordKeeps.{moved, node_after}
-use Rattle.rc_agreement.proofs.Longer.{longer_moved}
+use Rattle.rc_agreement.proofs.Longer.{Longer, longer_moved}
 use Rattle.rc_agreement.proofs.ShardNotes.{ShardNotes}
 use Rattle.rc_serial_order.proofs.Means.{WasPrepared, Written, Means, Grows, prepared_on, written_on, means_on, Firm, firm_on, PartNote}
 use Rattle.rc_serial_order.proofs.Firmness.{firm_after, row_written}
@@ -48,7 +48,7 @@ pub record Store (s : Scene) : Type 0 where
   pub clients : (t : ℕ) (x : Client) → found nat_cmp s.parties.clients t ≡ Some x → SoundIn s x.slots
   pub bodies : (t : ℕ) (o : Decision) → Proposal t s 0 o → (x : Client) × (found nat_cmp s.parties.clients t ≡ Some x) × Late x.phase × (o ≡ Commit (body_of x.slots))
 
-pub sound_on : (s z : Scene) → Grows s z → (xs : List Slot) → SoundIn s xs → SoundIn z xs
+pub sound_on : (s z : Scene) → Longer s z → (xs : List Slot) → SoundIn s xs → SoundIn z xs
 sound_on s z g xs h = record {
   each = λ x i. let k = h.each x i in record {
     grants = λ b j. written_on s z g x.key b.version b.value (k.grants b j);
@@ -97,7 +97,7 @@ module _ (c : Layout) (s : Scene) (inv : (u : ℕ) → Agreeing c u s) (q : Quor
       prepared (Some p) is e = record { part = p; logged = subst (λ (n : ShardNode). In (PartPrepared u p) n.log) (sym at_here) ((firm.held u p is).1) }
   says_new to (Prepare u p) k = absurd k
   says_new to (Granted u b e n w) k =
-      written_on s z grows b n w (subst (λ (a : ℕ × Option (List ℕ)). Written s b a.0 a.1) (λ i. (sym k.0 i, sym k.1 i)) (row_written s sh y.log y.durable firm b))
+      written_on s z grows.longer b n w (subst (λ (a : ℕ × Option (List ℕ)). Written s b a.0 a.1) (λ i. (sym k.0 i, sym k.1 i)) (row_written s sh y.log y.durable firm b))
   says_new to _ k = tt
 
   pub shard_store : Store z
@@ -110,7 +110,7 @@ module _ (c : Layout) (s : Scene) (inv : (u : ℕ) → Agreeing c u s) (q : Quor
         yes = λ e u g is n i. prepared_on s z grows e n u (h.yes e u g is n i);
         votes = λ u e b w i n j. prepared_on s z grows e n u (h.votes u e b w i n j);
         shards = put_server (λ e eh (n : ShardNode). Firm z eh n.log n.durable) s.parties d sh x y there (λ e eh _. firm_on s z grows eh _ _ (h.shards e eh)) (firm_on s z grows sh y.log y.durable firm);
-        clients = λ u w is. sound_on s z grows w.slots (h.clients u w is);
+        clients = λ u w is. sound_on s z grows.longer w.slots (h.clients u w is);
         bodies = λ u o p. h.bodies u o (⊎_elim (λ old. old) (λ new. absurd (modest u o new)) (said_new s.sent (shard_server d sh) ms (Propose u 0 o) p));
       }
 
@@ -137,7 +137,7 @@ coord_store s d there up a h q =
           (λ e _ i sh j. prepared_on s z g e sh u (h.votes u e b x i sh j))
           (λ i sh j. prepared_on s z g d sh u (⊎_elim (λ old. h.votes u d b x old sh j) (λ new. q.votes u b x new sh j) (new_vote a.logs (at s d).log (Accepted u b (Commit x)) i))) e;
       shards = λ e eh. firm_on s z g eh _ _ (h.shards e eh);
-      clients = λ u x is. sound_on s z g x.slots (h.clients u x is);
+      clients = λ u x is. sound_on s z g.longer x.slots (h.clients u x is);
       bodies = λ u o p. h.bodies u o (⊎_elim (λ old. old) (λ new. absurd (q.fresh u o new)) (said_new s.sent (coordinator d) a.sends (Propose u 0 o) p));
     }
   where
@@ -163,6 +163,6 @@ client_store s h cs u ms says sound bodies =
       yes = λ e t k is sh i. prepared_on s z g e sh t (h.yes e t k is sh i);
       votes = λ t e b w i sh j. prepared_on s z g e sh t (h.votes t e b w i sh j);
       shards = λ e eh. firm_on s z g eh _ _ (h.shards e eh);
-      clients = λ t x is. sound_on s z g x.slots (sound t x is);
+      clients = λ t x is. sound_on s z g.longer x.slots (sound t x is);
       bodies = bodies;
     }

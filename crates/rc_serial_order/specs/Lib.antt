@@ -1,0 +1,2 @@
+-- What is claimed of earlier lives.
+pub mod Earlier
