@@ -50,6 +50,10 @@ pub record CoordRow (d : ℕ) (s : CoordDurable) (v : CoordVolatile) (k : NodeCa
   pub takes : (u : ℕ) (n : TakeOver) → In (u, n) a.after.takeovers → ((m : TakeOver) × In (u, m) v.takeovers) ⊎ OpensFor k u
   pub votes : Aborts k a.logs
 
+-- to catch up it only asks
+pub catch_dull : (c : Layout) (d : ℕ) (v : CoordVolatile) → Dulls (do_catch c d v).sends
+catch_dull c d v = to_many Dull c.dcs _ (λ e. on_cond Dulls (e == d) _ _ (λ _. to_none Dull) (λ _. to_one Dull (coordinator e) (CatchAsk (place_of v e)) tt))
+
 module _ (c : Layout) (d : ℕ) (s : CoordDurable) (v : CoordVolatile) where
   -- the take-overs are among those of v
   record Fewer (after : CoordVolatile) : Type 0 where
@@ -155,7 +159,7 @@ module _ (c : Layout) (d : ℕ) (s : CoordDurable) (v : CoordVolatile) where
     decided_row u o = on_maybe R (outcome_of s.outcomes u) _ _ (λ _. learns_row u o) (λ _ _. idle)
 
     catch_row : R (do_catch c d v)
-    catch_row = says _ (to_many Dull c.dcs _ (λ e. on_cond Dulls (e == d) _ _ (λ _. to_none Dull) (λ _. to_one Dull (coordinator e) (CatchAsk (place_of v e)) tt)))
+    catch_row = says _ (catch_dull c d v)
 
     forgets_all : (after : CoordVolatile) (es : List (ℕ × Decision)) → Fewer after → Fewer (forgotten_all after es)
     forgets_all after [] f = f

@@ -6,3 +6,5 @@ pub mod CoordSays
 pub mod ShardSays
 pub mod Stopping
 pub mod Telling
+pub mod Refusing
+pub mod Clear
