@@ -1,0 +1,6 @@
+-- Why lines are printed.
+pub mod Moments
+pub mod Printed
+pub mod Stops
+pub mod Refused
+pub mod Aborts

@@ -1,0 +1,36 @@
+//! Causes: why a run prints what it prints. Each law is the contract of a function that does nothing, and holds of every list of
+//! happenings.
+#![tactic(auto)]
+
+ghost use Rattle.std.specs.Prelude.{List};
+ghost use Rattle.rc_ids.specs.Cluster.{Layout, IsLayout};
+ghost use Rattle.rc_protocol.specs.Nodes.{CoordNode, ShardNode};
+ghost use Rattle.rc_runs.specs.World.{World, Start, started_world};
+ghost use Rattle.rc_runs.specs.Refusals.{Happening};
+ghost use Rattle.rc_claims.specs.Lives.{IsLife};
+ghost use Rattle.rc_causes.specs.Printed.{PrintedIsChosen, LinesHaveMoments};
+ghost use Rattle.rc_causes.specs.Stops.{StopsHaveCauses};
+ghost use Rattle.rc_causes.specs.Refused.{RefusalsHaveCauses};
+ghost use Rattle.rc_causes.specs.Aborts.{Begins, AbortsHaveCauses};
+
+/// Each line of a run is printed in one of its happenings, and each outcome that is printed is chosen.
+pub fn printed_outcomes()
+    ensures moments { (w : World) (hs : List Happening) → LinesHaveMoments w hs }
+    ensures chosen { (c : Layout) → IsLayout c → (earlier : List World) (w : World) → IsLife c earlier w → (later : List Happening) → PrintedIsChosen w later }
+{}
+
+/// A node stops where it is crashed, or where an append of its own stopped.
+pub fn stops_have_causes()
+    ensures { (w : World) (h : Happening) → StopsHaveCauses w h }
+{}
+
+/// A refusal that is printed was sent by the coordinator that it names, for the reason that it gives: from whatever logs the run began.
+pub fn refusals_have_causes()
+    ensures { (c : Layout) (start : Start) (coords : List CoordNode) (shards : List ShardNode) (before : List Happening) (now : Happening)
+        → RefusalsHaveCauses (started_world c start coords shards) before now }
+{}
+
+/// An abort that is printed is chosen, after the transaction was taken over by command or refused by a quorum, in every life.
+pub fn aborts_have_causes()
+    ensures { (c : Layout) → IsLayout c → (w : World) → Begins c w → (before : List Happening) (now : Happening) → AbortsHaveCauses c w before now }
+{}
