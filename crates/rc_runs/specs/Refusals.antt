@@ -12,6 +12,7 @@ use Rattle.rc_report.specs.declared.fault.Which.{Which}
 use Rattle.rc_report.specs.declared.fault.Which.TheVariants.{Transactions, Events, Messages, MessageBytes, Version, Ballots}
 use Rattle.rc_runs.specs.declared.event.Event.{Event}
 use Rattle.rc_runs.specs.declared.event.Event.TheVariants.{Begin, Read, Write, Commit, Cancel, Retry, Vanish, Take, Catch, Deliver, Lose, Crash, CrashAt, Restart}
+use Rattle.rc_protocol.specs.Messages.{or_else}
 use Rattle.rc_protocol.specs.Client.{Client, ClientRefusal, NotOpen as IsNotOpen, TooManyKeys as HasTooManyKeys, KeyWornOut, is_vanished}
 use Rattle.rc_protocol.specs.Acts.{ClientCause, Reads, Writes, Commits, Cancels, Retries, Vanishes, refusal}
 use Rattle.rc_runs.specs.World.{World, Parties, Deed, ByClient, ByCoord, Course, is_up, message, envelopes, bytes_of, sends_of, actor, course_deed, step, printed}
@@ -40,7 +41,7 @@ abbrev pub wants_up : Parties → NodeId → Option Wrong
 wants_up w node = if is_up w node then None else Some (Down node)
 
 abbrev pub wrong_take : Parties → ℕ → ℕ → Option Wrong
-wrong_take w d t = maybe (wants_up w (Coord d)) (if is_begun w t then None else Some (NotBegun t)) Some
+wrong_take w d t = or_else (wants_up w (Coord d)) (if is_begun w t then None else Some (NotBegun t))
 
 abbrev pub is_pending : List ℕ → ℕ → Bool
 is_pending pending n = list_any (λ (k : ℕ). k == n) pending
@@ -98,7 +99,7 @@ abbrev pub limit : World → Event → Course → Option Which
 limit w e course =
     if begins e && nat_le most_transactions (length w.parties.clients) then Some Transactions
     else (if nat_le most_events w.events then Some Events
-    else maybe (worn_out (course_deed w e course)) (too_much_sent w e (course_deed w e course)) Some)
+    else or_else (worn_out (course_deed w e course)) (too_much_sent w e (course_deed w e course)))
 
 -- A RUN: events one after another, each with the course of its append. What names something wrongly, and an act that is worn out, is no
 -- event, and changes nothing

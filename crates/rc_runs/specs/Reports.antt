@@ -14,17 +14,13 @@ use Rattle.rc_protocol.specs.Client.{Client, is_vanished, is_committing, is_prop
 use Rattle.rc_runs.specs.World.{World, order}
 
 -- THE SUMMARY: clients that printed an outcome keep it
+abbrev pub same_outcome : Outcome → Outcome → Bool
+same_outcome Committed Committed = true
+same_outcome Aborted Aborted = true
+same_outcome _ _ = false
+
 abbrev pub has_outcome : Outcome → Client → Bool
-has_outcome Committed x = maybe x.outcome false (λ o. is_commit (outcome_of o))
-  where
-    is_commit : Outcome → Bool
-    is_commit Committed = true
-    is_commit Aborted = false
-has_outcome Aborted x = maybe x.outcome false (λ o. is_abort (outcome_of o))
-  where
-    is_abort : Outcome → Bool
-    is_abort Committed = false
-    is_abort Aborted = true
+has_outcome outcome x = maybe x.outcome false (λ o. same_outcome outcome (outcome_of o))
 
 abbrev pub clients_with : World → Outcome → ℕ
 clients_with w outcome = count_by (λ (x : ℕ × Client). has_outcome outcome x.1) w.parties.clients
