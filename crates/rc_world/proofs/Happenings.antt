@@ -1,7 +1,7 @@
 -- What an event leaves of a session, from what parties, disks and network did.
 use Rattle.std.proofs.Common.{◌≡◌, ℕ, suc, ◌+◌, Bool, true, false, List, [], ◌∷◌, ◌++◌, length, Option, None, Some, refl, sym, ◌∙◌, ap, subst, add-zero}
 use Rattle.std.proofs.lemmas.List.{append-nil}
-use Rattle.std.specs.Prelude.{Result, Ok, Err, nat_lt, nat_le, if◌then◌else◌, ◌&&◌}
+use Rattle.std.specs.Prelude.{Result, Ok, Err, nat_lt, nat_le, if◌then◌else◌, ◌&&◌, slice_set}
 use Rattle.rc_ids.specs.Tables.{maybe}
 use Rattle.rc_ids.specs.declared.names.NodeId.{NodeId}
 use Rattle.rc_ids.specs.declared.names.NodeId.TheVariants.{Coord, Shard as ShardServer}
@@ -14,8 +14,10 @@ use Rattle.rc_report.specs.declared.fault.Wrong.{Wrong}
 use Rattle.rc_report.specs.declared.fault.Wrong.TheVariants.{NotSent}
 use Rattle.rc_runs.specs.declared.event.Event.{Event}
 use Rattle.rc_runs.specs.declared.event.Event.TheVariants.{Begin, Read, Write, Commit, Cancel, Retry, Vanish, Take, Catch, Deliver, Lose, Crash, CrashAt, Restart}
+use Rattle.rc_ids.specs.Cluster.{is_dc}
 use Rattle.rc_protocol.specs.Messages.{Sends, client_of}
-use Rattle.rc_runs.specs.World.{Parties, Deed, Course, actor, message, envelopes, bytes_of, numbers_after, deed, course_deed, printed, sends_of, step, still_pending, delivered_after}
+use Rattle.rc_protocol.specs.Nodes.{coord_index, shard_index}
+use Rattle.rc_runs.specs.World.{Parties, Deed, Course, is_shard_of, actor, message, envelopes, bytes_of, numbers_after, deed, course_deed, printed, sends_of, step, still_pending, delivered_after}
 use Rattle.rc_runs.specs.Refusals.{wrong, limit, worn_out, too_much_sent, begins, most_transactions, most_events}
 use Rattle.rc_runs.specs.Devices.{Device}
 use Rattle.rc_runs.specs.Session.{Session, Halt, Misnamed, Limited, FarmFails, DiskWork, disk_work, after_work, may_do, does, prints, happens, with_world, with_text, text_bytes, most_text_bytes}
@@ -152,8 +154,18 @@ worked : (h : Housed) (n : Network) (events text : ℕ) (course : Course) (node 
     → after_work (session_of h n events text) (record { course = course; node = node; device = device }) ≡ Some (with_disks (session_of h n events text) cs ss)
 worked h n events text course None device cs ss is = both_disks (session_of h n events text) h.coords h.shards cs ss (disk_first _ _ cs ss is)
 worked h n events text course (Some node) None cs ss is = cc
-worked h n events text course (Some (Coord d)) (Some x) cs ss is = both_disks (session_of h n events text) _ h.shards cs ss (disk_first _ _ cs ss is)
-worked h n events text course (Some (ShardServer d s)) (Some x) cs ss is = both_disks (session_of h n events text) h.coords _ cs ss (disk_first _ _ cs ss is)
+worked h n events text course (Some (Coord d)) (Some x) cs ss is = by_test (is_dc h.parties.layout d) is
+  where
+    by_test : (b : Bool) → (let p : List Device × List Device = if b then (slice_set h.coords (coord_index d) x, h.shards) else (h.coords, h.shards) in Some p ≡ Some (cs, ss))
+        → (let z : Session = if b then record (session_of h n events text) { coords = slice_set h.coords (coord_index d) x } else session_of h n events text in Some z ≡ Some (with_disks (session_of h n events text) cs ss))
+    by_test true is = both_disks (session_of h n events text) _ h.shards cs ss (disk_first _ _ cs ss is)
+    by_test false is = both_disks (session_of h n events text) h.coords h.shards cs ss (disk_first _ _ cs ss is)
+worked h n events text course (Some (ShardServer d s)) (Some x) cs ss is = by_test (is_shard_of h.parties.layout d s) is
+  where
+    by_test : (b : Bool) → (let p : List Device × List Device = if b then (h.coords, slice_set h.shards (shard_index h.parties.layout d s) x) else (h.coords, h.shards) in Some p ≡ Some (cs, ss))
+        → (let z : Session = if b then record (session_of h n events text) { shards = slice_set h.shards (shard_index h.parties.layout d s) x } else session_of h n events text in Some z ≡ Some (with_disks (session_of h n events text) cs ss))
+    by_test true is = both_disks (session_of h n events text) h.coords _ cs ss (disk_first _ _ cs ss is)
+    by_test false is = both_disks (session_of h n events text) h.coords h.shards cs ss (disk_first _ _ cs ss is)
 
 past_early : (a b : Bool) (rest : Option Which) → (if a then Some Transactions else (if b then Some Events else None)) ≡ None → (if a then Some Transactions else (if b then Some Events else rest)) ≡ rest
 past_early true b rest is = cc

@@ -12,3 +12,5 @@ pub mod NewSessions
 pub mod Stops
 pub mod ShardStops
 pub mod SiteEdits
+pub mod ClientDeeds
+pub mod Taken

@@ -11,7 +11,8 @@ use Rattle.rc_body.specs.declared.entry.Entry.{Entry}
 use Rattle.rc_protocol.specs.Nodes.{CoordNode, ShardNode, coord_started, shard_started}
 use Rattle.rc_runs.specs.Devices.{Device}
 use Rattle.rc_runs.specs.Session.{Session, Halt}
-use Rattle.rc_runs.specs.Stored.{Begun, in_memory, begins_all, and_then, with_rest, nodes_of, nodes_of_dc, if_coord, if_shard, with_logs, all_choices, coords_of, shards_of, session_from, new_session}
+use Rattle.rc_runs.specs.Stored.{Begun, in_memory, begins_all, and_then, with_rest, nodes_of, nodes_of_dc, if_coord, if_shard, coords_of, shards_of, session_from, new_session}
+use Rattle.rc_runs.specs.Starts.{named_by_coords, named_by_shards, all_choices}
 use Rattle.rc_runs.specs.World.{started_world}
 use Rattle.rc_world.specs.Hosts.{CoordSite, ShardSite, coord_nodes, coord_devices, shard_nodes, shard_devices}
 use Rattle.rc_world.specs.Networks.{new_network}
@@ -123,9 +124,17 @@ flat_mapped f g ss (d ∷ ds) =
     map_append f (map (g d) ss) (flat_map (λ (e : ℕ). map (g e) ss) ds) ∙ ap (λ (xs : List _). xs ++ map f (flat_map (λ (e : ℕ). map (g e) ss) ds)) (mapped f (g d) ss)
     ∙ ap (λ (xs : List _). map (λ (s : ℕ). f (g d s)) ss ++ xs) (flat_mapped f g ss ds)
 
-none_named : (c : Layout) (nodes : List NodeId) → with_logs [] (map (begun c) nodes) ≡ []
+none_named : (c : Layout) (ds : List ℕ) → named_by_coords [] (map (λ (d : ℕ). coord_started []) ds) ≡ []
 none_named c [] = refl
-none_named c (node ∷ nodes) = none_named c nodes
+none_named c (d ∷ ds) = none_named c ds
+
+none_behind : (ss : List ℕ) (rest : List ShardNode) → named_by_shards [] rest ≡ [] → named_by_shards [] (map (λ (s : ℕ). shard_started []) ss ++ rest) ≡ []
+none_behind [] rest none = none
+none_behind (s ∷ ss) rest none = none_behind ss rest none
+
+none_by_shards : (ss ds : List ℕ) → named_by_shards [] (flat_map (λ (d : ℕ). map (λ (s : ℕ). shard_started []) ss) ds) ≡ []
+none_by_shards ss [] = refl
+none_by_shards ss (d ∷ ds) = none_behind ss (flat_map (λ (e : ℕ). map (λ (s : ℕ). shard_started []) ss) ds) (none_by_shards ss ds)
 
 none_chosen : (c : Layout) (cs : List CoordNode) (ds : List ℕ) → all_choices c cs [] (map (λ (d : ℕ). coord_started []) ds) ≡ []
 none_chosen c cs [] = refl
@@ -141,10 +150,13 @@ begun_session c coords shards =
     let cds : flat_map (λ (x : Begun). if_coord x.node x.device) xs ≡ coord_devices (coord_sites c c.dcs) = all_coords (λ (x : Begun). x.device) c (up_to c.dcs) ∙ sym (mapped (λ (s : CoordSite). s.device) (coord_site c) (up_to c.dcs)) in
     let sds : flat_map (λ (x : Begun). if_shard x.node x.device) xs ≡ shard_devices (shard_sites c c.dcs) = all_shards (λ (x : Begun). x.device) c (up_to c.dcs) ∙ sym (flat_mapped (λ (s : ShardSite). s.device) (shard_site c) (up_to c.shards) (up_to c.dcs)) in
     let chosen : all_choices c (coords_of xs) [] (coords_of xs) ≡ [] = ap (all_choices c (coords_of xs) []) nodes ∙ none_chosen c (coords_of xs) (up_to c.dcs) in
+    let named : named_by_shards (named_by_coords [] (coords_of xs)) (shards_of xs) ≡ [] =
+    ap (λ (ns : List ℕ). named_by_shards ns (shards_of xs)) (ap (named_by_coords []) nodes ∙ none_named c (up_to c.dcs))
+    ∙ ap (named_by_shards []) (all_shards (λ (x : Begun). shard_started x.log) c (up_to c.dcs)) ∙ none_by_shards (up_to c.shards) (up_to c.dcs) in
     let make : List ℕ → List (ℕ × List Entry) → List CoordNode → List ShardNode → List Device → List Device → Result Session Halt = λ named committed a b u v.
     Ok (record { world = started_world c (record { named = named; committed = committed }) a b; coords = u; shards = v; text = 0 }) in
     ap (session_from c) (begin_all c (nodes_of c) (nodes_begin c coords shards))
-    ∙ ap (λ (named : List ℕ). make named (all_choices c (coords_of xs) [] (coords_of xs)) (coords_of xs) (shards_of xs) (flat_map (λ (x : Begun). if_coord x.node x.device) xs) (flat_map (λ (x : Begun). if_shard x.node x.device) xs)) (none_named c (nodes_of c))
+    ∙ ap (λ (named : List ℕ). make named (all_choices c (coords_of xs) [] (coords_of xs)) (coords_of xs) (shards_of xs) (flat_map (λ (x : Begun). if_coord x.node x.device) xs) (flat_map (λ (x : Begun). if_shard x.node x.device) xs)) named
     ∙ ap (λ (committed : List (ℕ × List Entry)). make [] committed (coords_of xs) (shards_of xs) (flat_map (λ (x : Begun). if_coord x.node x.device) xs) (flat_map (λ (x : Begun). if_shard x.node x.device) xs)) chosen
     ∙ ap (λ (a : List CoordNode). make [] [] a (shards_of xs) (flat_map (λ (x : Begun). if_coord x.node x.device) xs) (flat_map (λ (x : Begun). if_shard x.node x.device) xs)) cs
     ∙ ap (λ (b : List ShardNode). make [] [] (coord_nodes (coord_sites c c.dcs)) b (flat_map (λ (x : Begun). if_coord x.node x.device) xs) (flat_map (λ (x : Begun). if_shard x.node x.device) xs)) ss

@@ -1,13 +1,15 @@
 -- What shows a shard server.
-use Rattle.std.proofs.Common.{◌≡◌, ℕ, ◌+◌, ◌-◌, ◌*◌, nat_le, ◌&&◌, Bool, true, false, if◌then◌else◌, List, [], ◌++◌, Option, None, Some, refl, sym, ◌∙◌, ap}
+use Rattle.std.proofs.Common.{◌≡◌, ℕ, Bool, true, false, if◌then◌else◌, List, [], ◌++◌, Option, None, Some, refl, sym, ◌∙◌, ap}
 use Rattle.std.specs.Prelude.{slice_get}
 use Rattle.std.specs.Option.{option_map}
 use Rattle.std.proofs.lemmas.List.{append-nil}
 use Rattle.rc_ids.specs.Tables.{maybe}
 use Rattle.rc_ids.specs.declared.names.NodeId.TheVariants.{Shard as ShardServer}
 use Rattle.rc_report.specs.declared.line.Line.{Line}
-use Rattle.rc_protocol.specs.Nodes.{ShardNode}
-use Rattle.rc_runs.specs.Script.{row_lines}
+use Rattle.rc_protocol.specs.Nodes.{ShardNode, shard_index}
+use Rattle.rc_runs.specs.World.{is_shard_of}
+use Rattle.rc_ids.specs.Cluster.{Layout}
+use Rattle.rc_protocol.specs.Shown.{row_lines}
 use Rattle.rc_world.specs.Hosts.{ShardSite, shard_nodes}
 use Rattle.rc_world.specs.Lines.{host_at, shown_at}
 use Rattle.rc_world.proofs.Sites.{shard_node_at}
@@ -18,18 +20,18 @@ by_test true None f = refl
 by_test true (Some s) f = refl
 by_test false o f = refl
 
-shown : (sites : List ShardSite) (count d s : ℕ) → shown_at (shard_nodes sites) count d s ≡ maybe (host_at sites count d s) [] (λ (h : ShardSite). row_lines (ShardServer d s) h.node)
-shown sites count d s =
-    ap (λ (o : Option ShardNode). maybe (if nat_le 1 s && nat_le s count then o else None) [] (row_lines (ShardServer d s))) (shard_node_at sites ((d - 1) * count + (s - 1)))
-    ∙ by_test (nat_le 1 s && nat_le s count) (slice_get sites ((d - 1) * count + (s - 1))) (row_lines (ShardServer d s))
+shown : (c : Layout) (sites : List ShardSite) (d s : ℕ) → shown_at c (shard_nodes sites) d s ≡ maybe (host_at c sites d s) [] (λ (h : ShardSite). row_lines (ShardServer d s) h.node)
+shown c sites d s =
+    ap (λ (o : Option ShardNode). maybe (if is_shard_of c d s then o else None) [] (row_lines (ShardServer d s))) (shard_node_at sites (shard_index c d s))
+    ∙ by_test (is_shard_of c d s) (slice_get sites (shard_index c d s)) (row_lines (ShardServer d s))
 
-pub shown-none : (sites : List ShardSite) (count d s : ℕ) (lines : List Line) → host_at sites count d s ≡ None → lines ≡ lines ++ shown_at (shard_nodes sites) count d s
-shown-none sites count d s lines is =
+pub shown-none : (c : Layout) (sites : List ShardSite) (d s : ℕ) (lines : List Line) → host_at c sites d s ≡ None → lines ≡ lines ++ shown_at c (shard_nodes sites) d s
+shown-none c sites d s lines is =
     sym (append-nil lines) ∙ ap (λ (ls : List Line). lines ++ ls)
-    (sym (shown sites count d s ∙ ap (λ (o : Option ShardSite). maybe o [] (λ (h : ShardSite). row_lines (ShardServer d s) h.node)) is))
+    (sym (shown c sites d s ∙ ap (λ (o : Option ShardSite). maybe o [] (λ (h : ShardSite). row_lines (ShardServer d s) h.node)) is))
 
-pub shown-some : (sites : List ShardSite) (count d s : ℕ) (host : ShardSite) (lines now : List Line) → host_at sites count d s ≡ Some host
-    → now ≡ lines ++ row_lines (ShardServer d s) host.node → now ≡ lines ++ shown_at (shard_nodes sites) count d s
-shown-some sites count d s host lines now is did =
+pub shown-some : (c : Layout) (sites : List ShardSite) (d s : ℕ) (host : ShardSite) (lines now : List Line) → host_at c sites d s ≡ Some host
+    → now ≡ lines ++ row_lines (ShardServer d s) host.node → now ≡ lines ++ shown_at c (shard_nodes sites) d s
+shown-some c sites d s host lines now is did =
     did ∙ ap (λ (ls : List Line). lines ++ ls)
-    (sym (shown sites count d s ∙ ap (λ (o : Option ShardSite). maybe o [] (λ (h : ShardSite). row_lines (ShardServer d s) h.node)) is))
+    (sym (shown c sites d s ∙ ap (λ (o : Option ShardSite). maybe o [] (λ (h : ShardSite). row_lines (ShardServer d s) h.node)) is))

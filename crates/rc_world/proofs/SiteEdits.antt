@@ -8,14 +8,14 @@ use Rattle.rc_protocol.specs.Shard.{do_catch as shard_catches, new_volatile as n
 use Rattle.rc_protocol.specs.Nodes.{CoordNode, ShardNode, coord_index, coord_started, shard_started}
 use Rattle.rc_runs.specs.Devices.{Device, opened_once}
 use Rattle.rc_world.specs.Hosts.{CoordSite, ShardSite}
-use Rattle.rc_world.specs.Acted.{CoordStarts, ShardStarts, ShardOpens}
+use Rattle.rc_world.specs.Acted.{CoordStarts, ShardStarts}
 use Rattle.rc_world.proofs.Sites.{taken}
 
-coord_is : (x : CoordSite) (n : CoordNode) (d : Device) → x.node ≡ n → x.device ≡ d → let y : CoordSite = record { node = n; device = d } in x ≡ y
+pub coord_is : (x : CoordSite) (n : CoordNode) (d : Device) → x.node ≡ n → x.device ≡ d → let y : CoordSite = record { node = n; device = d } in x ≡ y
 coord_is x n d node device =
     ap (λ (m : CoordNode). let y : CoordSite = record { node = m; device = x.device } in y) node ∙ ap (λ (e : Device). let y : CoordSite = record { node = n; device = e } in y) device
 
-shard_is : (x : ShardSite) (n : ShardNode) (d : Device) → x.node ≡ n → x.device ≡ d → let y : ShardSite = record { node = n; device = d } in x ≡ y
+pub shard_is : (x : ShardSite) (n : ShardNode) (d : Device) → x.node ≡ n → x.device ≡ d → let y : ShardSite = record { node = n; device = d } in x ≡ y
 shard_is x n d node device =
     ap (λ (m : ShardNode). let y : ShardSite = record { node = m; device = x.device } in y) node ∙ ap (λ (e : Device). let y : ShardSite = record { node = n; device = e } in y) device
 
@@ -56,15 +56,4 @@ shard_begins d ss i v left h none out read node device empty sends at =
       device = ap (λ (x : ShardSite). opened_once x.device) (sym same) ∙ device;
       sites = refl;
       sends = sends ∙ ap (λ (ms : Sends). ms ++ (shard_catches d new_shard_volatile).sends) empty;
-    }
-
-pub shard_is_open : (ss : List ShardSite) (i : ℕ) (v left h : ShardSite) → v ≡ get_or ss i v → left.node ≡ v.node → opened_once v.device ≡ Some left.device
-    → slice_get ss i ≡ Some h → ShardOpens i h ss (slice_set ss i left)
-shard_is_open ss i v left h read node device at =
-    let same : v ≡ h = taken ss i v h read at in
-    record {
-      left = left;
-      node = node ∙ ap (λ (x : ShardSite). x.node) same;
-      device = ap (λ (x : ShardSite). opened_once x.device) (sym same) ∙ device;
-      sites = refl;
     }

@@ -1,10 +1,10 @@
 -- All that act, with the disks of the nodes, and what a deed leaves of them.
-use Rattle.std.specs.Prelude.{◌≡◌, ℕ, ◌++◌, Bool, true, false, List, [], Option, Some, None, slice_get, slice_set}
+use Rattle.std.specs.Prelude.{◌≡◌, ℕ, ◌++◌, Bool, true, false, List, [], Option, Some, None, if◌then◌else◌, slice_set}
 use Rattle.std.specs.Ordering.{nat_cmp}
 use Rattle.rc_ids.specs.Tables.{Table, found, maybe}
 use Rattle.rc_ids.specs.declared.names.Party.{Party}
 use Rattle.rc_ids.specs.declared.names.Party.TheVariants.{Node, Client as ClientOf}
-use Rattle.rc_ids.specs.Cluster.{Layout}
+use Rattle.rc_ids.specs.Cluster.{Layout, is_dc}
 use Rattle.rc_ids.specs.declared.names.NodeId.{NodeId}
 use Rattle.rc_ids.specs.declared.names.NodeId.TheVariants.{Coord, Shard as ShardServer}
 use Rattle.rc_body.specs.declared.entry.Entry.{Entry}
@@ -18,18 +18,19 @@ use Rattle.rc_coord.specs.declared.fault.CoordFault.TheVariants.{NoMemory as Coo
 use Rattle.rc_runs.specs.declared.event.Event.{Event}
 use Rattle.rc_runs.specs.declared.event.Event.TheVariants.{Read, Write, Commit, Cancel, Retry, Vanish, Deliver}
 use Rattle.rc_protocol.specs.Messages.{Sends}
-use Rattle.rc_protocol.specs.Client.{Client, ClientAct, do_read, do_write, do_commit, do_cancel, do_retry, do_vanish, client_row, is_open}
+use Rattle.rc_protocol.specs.Client.{Client, ClientAct, client_stays, KeyWornOut as IsWornOut}
+use Rattle.rc_protocol.specs.Acts.{ClientCause, Hears, Reads, Writes, Commits, Cancels, Retries, Vanishes, client_by_row, refusal}
 use Rattle.rc_protocol.specs.Coordinator.{CoordAct, do_catch, new_volatile}
 use Rattle.rc_protocol.specs.Shard.{ShardAct, do_catch as shard_catches, new_volatile as new_shard_volatile}
 use Rattle.rc_protocol.specs.Nodes.{coord_index, shard_index, coord_started, shard_started, coord_stopped, shard_stopped}
 use Rattle.rc_runs.specs.Votes.{ordered}
-use Rattle.rc_runs.specs.World.{Parties, Deed, Course, along, moved, sends_of, lines_of, message, new_start, coord_does, shard_does, client_does}
-use Rattle.rc_runs.specs.Refusals.{is_full, worn_out}
+use Rattle.rc_runs.specs.World.{Parties, Deed, Idle, Course, along, moved, sends_of, lines_of, message, new_start, is_shard_of, coord_does, shard_does, client_does}
+use Rattle.rc_runs.specs.Refusals.{worn_out}
 use Rattle.rc_runs.specs.Devices.{Device, appended, powered, opened_once, armed}
-use Rattle.rc_runs.specs.Session.{DiskWork, no_device, no_work, work_on, append_of, append_work}
+use Rattle.rc_runs.specs.Session.{DiskWork, no_device, device_in, no_work, work_on, append_of, append_work}
 use Rattle.rc_world.specs.declared.fault.ActFault.{ActFault}
 use Rattle.rc_world.specs.declared.fault.ActFault.TheVariants.{NoMemory, VersionSpent, BallotsSpent}
-use Rattle.rc_world.specs.Hosts.{CoordSite, ShardSite, coord_nodes, coord_devices, shard_nodes, shard_devices, coord_act, shard_act, coord_left, shard_left, course_for, device_for, record_left, sends_left, lines_left}
+use Rattle.rc_world.specs.Hosts.{CoordSite, ShardSite, coord_nodes, coord_devices, shard_nodes, shard_devices, node_cause, coord_left, shard_left, course_for, device_for, record_left, sends_left, lines_left}
 
 -- the parties, and the disks in the places of their nodes
 pub record Housed : Type 0 where
@@ -52,14 +53,14 @@ housed c coords shards clients committed = record {
   shards = shard_devices shards;
 }
 
--- DISKS
+-- DISKS, none outside the world
 abbrev pub disk_at : Housed → NodeId → Device
-disk_at h (Coord d) = maybe (slice_get h.coords (coord_index d)) no_device (λ x. x)
-disk_at h (ShardServer d s) = maybe (slice_get h.shards (shard_index h.parties.layout d s)) no_device (λ x. x)
+disk_at h (Coord d) = if is_dc h.parties.layout d then device_in h.coords (coord_index d) else no_device
+disk_at h (ShardServer d s) = if is_shard_of h.parties.layout d s then device_in h.shards (shard_index h.parties.layout d s) else no_device
 
 abbrev pub with_disk : Housed → NodeId → Device → List Device × List Device
-with_disk h (Coord d) x = (slice_set h.coords (coord_index d) x, h.shards)
-with_disk h (ShardServer d s) x = (h.coords, slice_set h.shards (shard_index h.parties.layout d s) x)
+with_disk h (Coord d) x = if is_dc h.parties.layout d then (slice_set h.coords (coord_index d) x, h.shards) else (h.coords, h.shards)
+with_disk h (ShardServer d s) x = if is_shard_of h.parties.layout d s then (h.coords, slice_set h.shards (shard_index h.parties.layout d s) x) else (h.coords, h.shards)
 
 -- what the deed asks of a disk
 abbrev pub deed_work : Housed → Deed → DiskWork
@@ -166,51 +167,45 @@ pub record ShardStarts (d place : ℕ) (site : ShardSite) (old new : List ShardS
   pub sites : new ≡ slice_set old place left
   pub sends : out ≡ (shard_catches d new_shard_volatile).sends
 
--- the log of the shard server at a place is open; the server is as it was
-pub record ShardOpens (place : ℕ) (site : ShardSite) (old new : List ShardSite) : Type 0 where
-  pub left : ShardSite
-  pub node : left.node ≡ site.node
-  pub device : opened_once site.device ≡ Some left.device
-  pub sites : new ≡ slice_set old place left
-
 -- CLIENTS
-abbrev pub client_stays : Client → ClientAct
-client_stays x = record { after = x; sends = []; lines = []; worn = false }
+-- what moves a client that takes part in the event
+abbrev pub client_cause : List Envelope → Event → Option ClientCause
+client_cause sent (Read u k) = Some (Reads k)
+client_cause sent (Write u k value) = Some (Writes k value)
+client_cause sent (Commit u) = Some Commits
+client_cause sent (Cancel u k) = Some (Cancels k)
+client_cause sent (Retry u) = Some Retries
+client_cause sent (Vanish u) = Some Vanishes
+client_cause sent (Deliver n) = maybe (message sent n) None (λ e. Some (Hears e.msg))
+client_cause sent e = None
 
--- what the client does in the event, where it takes part
-abbrev pub client_act : Layout → ℕ → List Envelope → Event → Client → ClientAct
-client_act c t sent (Read u k) x = do_read c t x k
-client_act c t sent (Write u k value) x = do_write x k value
-client_act c t sent (Commit u) x = do_commit c t x
-client_act c t sent (Cancel u k) x = do_cancel c t x k
-client_act c t sent (Retry u) x = do_retry c t x
-client_act c t sent (Vanish u) x = do_vanish x
-client_act c t sent (Deliver n) x = maybe (message sent n) (client_stays x) (λ e. client_row c t x e.msg)
-client_act c t sent e x = client_stays x
+-- its part in the event, where it takes the command
+abbrev pub client_part : Layout → ℕ → List Envelope → Event → Client → ClientAct
+client_part c t sent e x = maybe (client_cause sent e) (client_stays x) (client_by_row c t x)
 
--- the client takes the command
-abbrev pub May : Event → Client → Type 0
-May (Read u k) x = is_full x k ≡ false
-May (Write u k value) x = (is_open x.phase ≡ true) × (is_full x k ≡ false)
-May e x = Unit {0}
+-- it takes the command
+abbrev pub May : List Envelope → Event → Client → Type 0
+May sent e x = maybe (client_cause sent e) None (refusal x) ≡ None
 
 -- a client refuses for a version that is worn out alone
 abbrev pub Wears : ActFault → ClientAct → Type 0
 Wears NoMemory act = Unit {0}
-Wears VersionSpent act = act.worn ≡ true
+Wears VersionSpent act = act.refused ≡ Some IsWornOut
 Wears BallotsSpent act = ⊥
 
 -- what the party does in the event, where it takes part
 abbrev pub does_by : Parties → List Envelope → Event → Party → Deed
-does_by p sent e (Node (Coord d)) = coord_does p d (coord_act p.layout d sent e)
-does_by p sent e (Node (ShardServer d s)) = shard_does p d s (shard_act p.layout d s sent e)
-does_by p sent e (ClientOf t) = client_does p t (client_act p.layout t sent e)
+does_by p sent e (Node (Coord d)) = maybe (node_cause sent e) Idle (coord_does p d)
+does_by p sent e (Node (ShardServer d s)) = maybe (node_cause sent e) Idle (shard_does p d s)
+does_by p sent e (ClientOf t) = maybe (client_cause sent e) Idle (client_does p t)
 
 -- the party takes what the event asks of it
-abbrev pub MayAct : Parties → Party → Event → Type 0
-MayAct p (Node node) e = Unit {0}
-MayAct p (ClientOf t) e = (x : Client) → found nat_cmp p.clients t ≡ Some x → May e x
+abbrev pub MayAct : Parties → List Envelope → Party → Event → Type 0
+MayAct p sent (Node node) e = Unit {0}
+MayAct p sent (ClientOf t) e = (x : Client) → found nat_cmp p.clients t ≡ Some x → May sent e x
 
--- whether the key, if there is one, would be one too many
-abbrev pub is_full_for : Option (List ℕ) → Client → Bool
-is_full_for key x = maybe key false (is_full x)
+-- a command that an open client alone takes, or any, and that touches this key, if there is one
+abbrev pub command_for : Bool → Option (List ℕ) → ClientCause
+command_for true (Some k) = Reads k
+command_for true None = Commits
+command_for false key = Retries

@@ -12,8 +12,9 @@ use Rattle.rc_coord.specs.declared.fault.CoordFault.TheVariants.{NoMemory as Coo
 use Rattle.rc_runs.specs.declared.event.Event.{Event}
 use Rattle.rc_runs.specs.declared.event.Event.TheVariants.{Take, Catch, Deliver}
 use Rattle.rc_protocol.specs.Messages.{Sends}
-use Rattle.rc_protocol.specs.Coordinator.{CoordAct, coord_row, coord_stays, do_take, do_catch}
-use Rattle.rc_protocol.specs.Shard.{ShardAct, shard_row, shard_stays, do_catch as shard_catches}
+use Rattle.rc_protocol.specs.Coordinator.{CoordAct, coord_stays}
+use Rattle.rc_protocol.specs.Shard.{ShardAct, shard_stays}
+use Rattle.rc_protocol.specs.Acts.{NodeCause, Came, Catches, Takes, coord_act, shard_act}
 use Rattle.rc_protocol.specs.Nodes.{CoordNode, ShardNode, coord_after, shard_after, coord_stopped, shard_stopped}
 use Rattle.rc_runs.specs.World.{Course, Goes, Stops, kept_record, message}
 use Rattle.rc_runs.specs.Devices.{Device, appended, course_of, record_length}
@@ -45,13 +46,17 @@ abbrev pub lines_left : NodeId → Course → Option Record → List Line
 lines_left node Goes logs = []
 lines_left node (Stops kept) logs = maybe logs [] (λ _. Stopped node ∷ [])
 
+-- WHAT MOVES A NODE that takes part in the event
+abbrev pub node_cause : List Envelope → Event → Option NodeCause
+node_cause sent (Take d t) = Some (Takes t)
+node_cause sent (Catch node) = Some Catches
+node_cause sent (Deliver n) = maybe (message sent n) None (λ e. Some (Came e.from e.msg))
+node_cause sent e = None
+
 -- COORDINATORS
--- what the coordinator does in the event, where it takes part
-abbrev pub coord_act : Layout → ℕ → List Envelope → Event → CoordNode → CoordAct
-coord_act c d sent (Take e t) x = do_take c d x.durable x.volatile t
-coord_act c d sent (Catch node) x = do_catch c d x.volatile
-coord_act c d sent (Deliver n) x = maybe (message sent n) (coord_stays x.volatile) (λ e. coord_row c d x.durable x.volatile e.from e.msg)
-coord_act c d sent e x = coord_stays x.volatile
+-- its part in the event
+abbrev pub coord_part : Layout → ℕ → List Envelope → Event → CoordNode → CoordAct
+coord_part c d sent e x = maybe (node_cause sent e) (coord_stays x.volatile) (coord_act c d x.durable x.volatile)
 
 -- the coordinator after the act
 abbrev pub coord_left : Course → CoordNode → CoordAct → CoordNode
@@ -81,11 +86,9 @@ pub record ShardSite : Type 0 where
   pub node : ShardNode
   pub device : Device
 
--- what the shard server does in the event, where it takes part
-abbrev pub shard_act : Layout → ℕ → ℕ → List Envelope → Event → ShardNode → ShardAct
-shard_act c d s sent (Catch node) x = shard_catches d x.volatile
-shard_act c d s sent (Deliver n) x = maybe (message sent n) (shard_stays x.volatile) (λ e. shard_row c d s x.durable x.volatile e.msg)
-shard_act c d s sent e x = shard_stays x.volatile
+-- its part in the event
+abbrev pub shard_part : Layout → ℕ → ℕ → List Envelope → Event → ShardNode → ShardAct
+shard_part c d s sent e x = maybe (node_cause sent e) (shard_stays x.volatile) (shard_act c d s x.durable x.volatile)
 
 -- the shard server after the act
 abbrev pub shard_left : Course → ShardNode → ShardAct → ShardNode

@@ -1,15 +1,17 @@
 -- Lines of a script, put behind the lines so far.
-use Rattle.std.specs.Prelude.{◌≡◌, ℕ, ◌+◌, ◌-◌, ◌*◌, nat_le, ◌&&◌, if◌then◌else◌, List, [], ◌∷◌, Option, None, slice_get, Ok}
+use Rattle.std.specs.Prelude.{◌≡◌, ℕ, if◌then◌else◌, List, [], ◌∷◌, Option, None, slice_get, Ok}
 use Rattle.rc_ids.specs.Tables.{maybe}
+use Rattle.rc_ids.specs.Cluster.{Layout}
 use Rattle.rc_msg.specs.declared.msg.Envelope.{Envelope}
 use Rattle.rc_report.specs.declared.line.Line.{Line}
 use Rattle.rc_report.specs.declared.line.Line.TheVariants.{Pending as PendingLine}
-use Rattle.rc_runs.specs.World.{message}
+use Rattle.rc_runs.specs.World.{message, is_shard_of}
 use Rattle.rc_runs.specs.Session.{Session, Went}
 use Rattle.rc_ids.specs.declared.names.NodeId.TheVariants.{Shard as ShardServer}
-use Rattle.rc_protocol.specs.Nodes.{ShardNode}
+use Rattle.rc_protocol.specs.Nodes.{ShardNode, shard_index}
+use Rattle.rc_protocol.specs.Shown.{row_lines}
 use Rattle.rc_world.specs.Hosts.{ShardSite}
-use Rattle.rc_runs.specs.Script.{LineDone, then_line, row_lines}
+use Rattle.rc_runs.specs.Script.{LineDone, then_line}
 use Rattle.rc_world.specs.declared.fault.SessionFault.{SessionFault}
 use Rattle.rc_world.specs.Sessions.{Halts, Halted, Performed, Stay}
 
@@ -34,10 +36,9 @@ abbrev pub line_of : List Envelope → ℕ → List Line
 line_of sent n = maybe (message sent n) [] (λ e. PendingLine n e ∷ [])
 
 -- what shows a shard server of d, of those in their places
-abbrev pub shown_at : List ShardNode → ℕ → ℕ → ℕ → List Line
-shown_at shards count d s =
-    maybe (if nat_le 1 s && nat_le s count then slice_get shards ((d - 1) * count + (s - 1)) else None) [] (row_lines (ShardServer d s))
+abbrev pub shown_at : Layout → List ShardNode → ℕ → ℕ → List Line
+shown_at c shards d s = maybe (if is_shard_of c d s then slice_get shards (shard_index c d s) else None) [] (row_lines (ShardServer d s))
 
 -- the shard server of d, of those with their disks in their places
-abbrev pub host_at : List ShardSite → ℕ → ℕ → ℕ → Option ShardSite
-host_at sites count d s = if nat_le 1 s && nat_le s count then slice_get sites ((d - 1) * count + (s - 1)) else None
+abbrev pub host_at : Layout → List ShardSite → ℕ → ℕ → Option ShardSite
+host_at c sites d s = if is_shard_of c d s then slice_get sites (shard_index c d s) else None

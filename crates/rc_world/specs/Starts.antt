@@ -1,5 +1,5 @@
 -- Nodes whose logs were created on empty disks.
-use Rattle.std.specs.Prelude.{◌≡◌, ℕ, true, List, [], map, Ok}
+use Rattle.std.specs.Prelude.{◌≡◌, ℕ, List, [], map, Ok}
 use Rattle.std.specs.List.{flat_map}
 use Rattle.rc_ids.specs.Tables.{up_to}
 use Rattle.rc_ids.specs.Cluster.{Layout}
@@ -14,7 +14,7 @@ use Rattle.rc_world.specs.Hosts.{CoordSite, ShardSite}
 
 -- the disk after the creation of the log and its head
 abbrev pub headed : Layout → NodeId → Device
-headed c node = (appended (created (new_device [] [] true)).1 (record_length (Head (new_head node c)))).1
+headed c node = (appended (created (new_device [] [])).1 (record_length (Head (new_head node c)))).1
 
 abbrev pub begun : Layout → NodeId → Begun
 begun c node = record { node = node; device = headed c node; log = [] }

@@ -1,11 +1,11 @@
 // Clients by their transactions.
-ghost use Rattle.std.specs.Prelude.{◌≡◌, ◌++◌, [], Some, None, false, OnOk, IfOk, IfErr};
+ghost use Rattle.std.specs.Prelude.{◌≡◌, ◌++◌, [], Some, None, OnOk, IfOk, IfErr};
 ghost use Rattle.std.specs.Ordering.{nat_cmp};
 ghost use Rattle.rc_ids.specs.Tables.{found};
 ghost use Rattle.rc_client.specs.Acts.{Does};
 ghost use Rattle.rc_protocol.specs.Client.{Client as ClientState};
 ghost use Rattle.rc_runs.specs.World.{replaced};
-ghost use Rattle.rc_world.specs.Acted.{client_act as client_act_lem, May, Wears};
+ghost use Rattle.rc_world.specs.Acted.{client_part as client_part_lem, May, Wears};
 ghost use Rattle.rc_world.specs.declared.fault.ActFault.TheVariants.{NoMemory as OutOfMemory};
 
 use crate::fault::ActFault;
@@ -13,12 +13,13 @@ use crate::network::message;
 use rc_client::Client;
 use rc_ids::{Cluster, TxId};
 use rc_msg::{Envelope, Messages};
-use rc_runs::Event;
 use rc_report::Lines;
+use rc_runs::Event;
 use std::alloc::Global;
 use std::collections::BTreeMap;
 
 /// A client does its part in an event.
+#[tactic(auto, using(crate::proofs::Taken::is_open_of, crate::proofs::Taken::has_room_of))]
 fn client_act(
     client: &mut Client,
     cluster: &Cluster,
@@ -28,9 +29,9 @@ fn client_act(
     out: &mut Messages,
     lines: &mut Lines,
 ) -> Result<(), ActFault>
-    requires { May event.now client.old }
-    ensures done { OnOk result (Does (client_act_lem cluster.now tx sent.now event.now client.old) client.new out.old out.new lines.old lines.new) }
-    ensures worn { IfErr result (λ e. Wears e (client_act_lem cluster.now tx sent.now event.now client.old)) }
+    requires { May sent.now event.now client.old }
+    ensures done { OnOk result (Does (client_part_lem cluster.now tx sent.now event.now client.old) client.new out.old out.new lines.old lines.new) }
+    ensures worn { IfErr result (λ e. Wears e (client_part_lem cluster.now tx sent.now event.now client.old)) }
 {
     match event {
         Event::Read(_, key) => client.read(cluster, tx, key, out, lines)?,
@@ -59,12 +60,12 @@ pub(crate) fn client_acts(
     event: &Event,
     lines: &mut Lines,
 ) -> Result<Messages, ActFault>
-    requires { (x : ClientState) → found nat_cmp clients.old.entries tx ≡ Some x → May event.now x }
+    requires { (x : ClientState) → found nat_cmp clients.old.entries tx ≡ Some x → May sent.now event.now x }
     ensures outside { IfOk result (λ out. found nat_cmp clients.old.entries tx ≡ None → (clients.new.entries ≡ clients.old.entries) × (out ≡ []) × (lines.new ≡ lines.old)) }
     ensures done { IfOk result (λ out. (x : ClientState) → found nat_cmp clients.old.entries tx ≡ Some x →
-        let act = client_act_lem cluster.now tx sent.now event.now x in
-        (clients.new.entries ≡ replaced clients.old.entries tx act.after) × (out ≡ act.sends) × (lines.new ≡ lines.old ++ act.lines) × (act.worn ≡ false)) }
-    ensures worn { IfErr result (λ e. (x : ClientState) → found nat_cmp clients.old.entries tx ≡ Some x → Wears e (client_act_lem cluster.now tx sent.now event.now x)) }
+        let act = client_part_lem cluster.now tx sent.now event.now x in
+        (clients.new.entries ≡ replaced clients.old.entries tx act.after) × (out ≡ act.sends) × (lines.new ≡ lines.old ++ act.lines) × (act.refused ≡ None)) }
+    ensures worn { IfErr result (λ e. (x : ClientState) → found nat_cmp clients.old.entries tx ≡ Some x → Wears e (client_part_lem cluster.now tx sent.now event.now x)) }
     ensures outside_refused { IfErr result (λ e. found nat_cmp clients.old.entries tx ≡ None → e ≡ OutOfMemory) }
 {
     let mut out = Messages::new(alloc);

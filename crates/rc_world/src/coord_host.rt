@@ -1,7 +1,7 @@
 // A coordinator with its disk.
 ghost use Rattle.std.specs.Prelude.{◌≡◌, ◌<◌, ◌++◌, [], true, false, Some, None, IsTrue, OnOk, IfOk, IfErr, length, slice_get};
 ghost use Rattle.std.specs.List.{list_any};
-ghost use Rattle.rc_runs.specs.Votes.{is_vote};
+ghost use Rattle.rc_protocol.specs.Nodes.{is_vote};
 ghost use Rattle.rc_ids.specs.Cluster.{is_dc};
 ghost use Rattle.rc_record.specs.CoordState.{new_durable};
 ghost use Rattle.rc_protocol.specs.Coordinator.{CoordAct, do_catch, new_volatile};
@@ -9,7 +9,7 @@ ghost use Rattle.rc_protocol.specs.Nodes.{CoordNode, coord_after, coord_replayed
 ghost use Rattle.rc_runs.specs.Devices.{powered, armed, opened_once};
 ghost use Rattle.rc_coord.specs.Rows.{Handled};
 ghost use Rattle.rc_world.specs.Disks.{protocol_course};
-ghost use Rattle.rc_world.specs.Hosts.{CoordSite, coord_act as coord_act_lem, CoordWent, Lacks};
+ghost use Rattle.rc_world.specs.Hosts.{CoordSite, coord_part as coord_part_lem, CoordWent, Lacks};
 
 use crate::disk::{Course, Disk};
 use crate::lengths::record_len;
@@ -17,8 +17,8 @@ use crate::network::message;
 use rc_coord::{Coord, CoordFault};
 use rc_ids::{Ballot, Cluster, DcId, NoMemory, Outcome, TxId};
 use rc_msg::{Envelope, Messages};
-use rc_runs::Event;
 use rc_record::Record;
+use rc_runs::Event;
 use std::alloc::Global;
 use std::marker::Model;
 
@@ -51,8 +51,8 @@ fn coord_act(
     out: &mut Messages,
 ) -> Result<(), CoordFault>
     requires { IsTrue (is_dc cluster.now dc) }
-    ensures done { OnOk result (Handled (coord_act_lem cluster.now dc sent.now event.now coord.old) coord.old coord.new out.old out.new) }
-    ensures lacks { IfErr result (λ e. Lacks e (coord_act_lem cluster.now dc sent.now event.now coord.old)) }
+    ensures done { OnOk result (Handled (coord_part_lem cluster.now dc sent.now event.now coord.old) coord.old coord.new out.old out.new) }
+    ensures lacks { IfErr result (λ e. Lacks e (coord_part_lem cluster.now dc sent.now event.now coord.old)) }
 {
     match event {
         Event::Take(_, tx) => coord.take(cluster, dc, *tx, out),
@@ -105,11 +105,11 @@ fn act(
     out: &mut Messages,
 ) -> Result<Course, CoordFault>
     requires { IsTrue (is_dc cluster.now dc) }
-    ensures went { IfOk result (λ course. CoordWent (coord_act_lem cluster.now dc sent.now event.now coord.old)
+    ensures went { IfOk result (λ course. CoordWent (coord_part_lem cluster.now dc sent.now event.now coord.old)
         (record { node = coord.old; device = disk.old }) (record { node = coord.new; device = disk.new }) (protocol_course course)) }
-    ensures sends { OnOk result (out.new ≡ out.old ++ (coord_act_lem cluster.now dc sent.now event.now coord.old).sends) }
-    ensures whole { OnOk result ((coord_act_lem cluster.now dc sent.now event.now coord.old).spent ≡ false) }
-    ensures lacks { IfErr result (λ e. Lacks e (coord_act_lem cluster.now dc sent.now event.now coord.old)) }
+    ensures sends { OnOk result (out.new ≡ out.old ++ (coord_part_lem cluster.now dc sent.now event.now coord.old).sends) }
+    ensures whole { OnOk result ((coord_part_lem cluster.now dc sent.now event.now coord.old).spent ≡ false) }
+    ensures lacks { IfErr result (λ e. Lacks e (coord_part_lem cluster.now dc sent.now event.now coord.old)) }
 {
     let _up = coord.is_up();
     let before = coord.log_len();
@@ -140,10 +140,10 @@ impl CoordHost {
         out: &mut Messages,
     ) -> Result<Course, CoordFault>
         requires { IsTrue (is_dc cluster.now dc) }
-        ensures went { IfOk result (λ course. CoordWent (coord_act_lem cluster.now dc sent.now event.now self.old.node) self.old self.new (protocol_course course)) }
-        ensures sends { OnOk result (out.new ≡ out.old ++ (coord_act_lem cluster.now dc sent.now event.now self.old.node).sends) }
-        ensures whole { OnOk result ((coord_act_lem cluster.now dc sent.now event.now self.old.node).spent ≡ false) }
-        ensures lacks { IfErr result (λ e. Lacks e (coord_act_lem cluster.now dc sent.now event.now self.old.node)) }
+        ensures went { IfOk result (λ course. CoordWent (coord_part_lem cluster.now dc sent.now event.now self.old.node) self.old self.new (protocol_course course)) }
+        ensures sends { OnOk result (out.new ≡ out.old ++ (coord_part_lem cluster.now dc sent.now event.now self.old.node).sends) }
+        ensures whole { OnOk result ((coord_part_lem cluster.now dc sent.now event.now self.old.node).spent ≡ false) }
+        ensures lacks { IfErr result (λ e. Lacks e (coord_part_lem cluster.now dc sent.now event.now self.old.node)) }
     {
         let acted = act(
             &mut self.node,

@@ -2,7 +2,7 @@
 ghost use Rattle.std.specs.Prelude.{◌≡◌, ◌<◌, ◌++◌, [], ◌∷◌, true, false, Some, IsTrue, OnOk, IfOk, IfErr, length, slice_get, slice_set};
 ghost use Rattle.rc_ids.specs.Cluster.{is_dc};
 ghost use Rattle.rc_protocol.specs.Nodes.{coord_index};
-ghost use Rattle.rc_world.specs.Hosts.{CoordSite, coord_act};
+ghost use Rattle.rc_world.specs.Hosts.{CoordSite, coord_part};
 ghost use Rattle.rc_world.specs.Acted.{CoordDone, CoordDid, CoordIdle, CoordStarts, Lacking, stopped_coord, armed_coord};
 ghost use Rattle.rc_ids.specs.declared.names.NodeId.TheVariants.{Coord as CoordName};
 ghost use Rattle.rc_report.specs.declared.line.Line.TheVariants.{Stopped as StoppedLine};
@@ -14,8 +14,8 @@ use crate::order::note_written;
 use rc_body::Body;
 use rc_ids::{Cluster, DcId, NoMemory, NodeId, TxId};
 use rc_msg::{Envelope, Messages};
-use rc_runs::Event;
 use rc_report::{Line, Lines};
+use rc_runs::Event;
 use std::alloc::Global;
 
 /// A coordinator does its part in an event. Where it stops inside that, it sends nothing.
@@ -29,8 +29,8 @@ fn act_at(
     lines: &mut Lines,
 ) -> Result<Messages, ActFault>
     requires { IsTrue (is_dc cluster.now dc) }
-    ensures done { IfOk result (λ out. CoordDone cluster.now dc (coord_act cluster.now dc sent.now event.now host.old.node) host.old host.new out lines.old lines.new) }
-    ensures lacking { IfErr result (λ e. Lacking e (coord_act cluster.now dc sent.now event.now host.old.node)) }
+    ensures done { IfOk result (λ out. CoordDone cluster.now dc (coord_part cluster.now dc sent.now event.now host.old.node) host.old host.new out lines.old lines.new) }
+    ensures lacking { IfErr result (λ e. Lacking e (coord_part cluster.now dc sent.now event.now host.old.node)) }
 {
     let mut out = Messages::new(alloc);
     let course = host.act(alloc, cluster, dc, sent, event, &mut out)?;
@@ -60,9 +60,9 @@ pub(crate) fn coord_acts(
     ensures idle { IfOk result (λ out. (h : CoordSite) → slice_get coords.old.items (coord_index dc) ≡ Some h → h.node.up ≡ false
         → CoordIdle coords.old.items coords.new.items committed.old.items committed.new.items out lines.old lines.new) }
     ensures did { IfOk result (λ out. (h : CoordSite) → slice_get coords.old.items (coord_index dc) ≡ Some h → h.node.up ≡ true
-        → CoordDid cluster.now dc (coord_act cluster.now dc sent.now event.now h.node) h coords.old.items coords.new.items committed.old.items committed.new.items out lines.old lines.new) }
+        → CoordDid cluster.now dc (coord_part cluster.now dc sent.now event.now h.node) h coords.old.items coords.new.items committed.old.items committed.new.items out lines.old lines.new) }
     ensures lacking { IfErr result (λ e. (h : CoordSite) → slice_get coords.old.items (coord_index dc) ≡ Some h
-        → (h.node.up ≡ true) × Lacking e (coord_act cluster.now dc sent.now event.now h.node)) }
+        → (h.node.up ≡ true) × Lacking e (coord_part cluster.now dc sent.now event.now h.node)) }
 {
     let place = dc.0 as usize - 1;
     if !coords[place].is_up() {

@@ -44,7 +44,7 @@ impl Model for Disk {
 
     ghost Value = { Device };
 
-    ghost view = { λ d. record { place = d.place; calls = d.calls; reads = d.reads; failing = []; failing_reads = []; arms = true; cut = d.cut; is_open = d.is_open } };
+    ghost view = { λ d. record { place = d.place; calls = d.calls; reads = d.reads; failing = []; failing_reads = []; cut = d.cut; is_open = d.is_open } };
 
     ghost invariant = { λ d. (d.place ≤ 268435456) × (d.is_open ≡ false → d.cut ≡ None) };
 }
@@ -86,7 +86,7 @@ fn is_kept(call: u32, pick: u8) -> bool
 impl Disk {
     /// An empty disk.
     pub(crate) fn new() -> Disk
-        ensures { result ≡ new_device [] [] true }
+        ensures { result ≡ new_device [] [] }
     {
         Disk {
             place: 0,

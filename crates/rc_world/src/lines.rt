@@ -11,8 +11,8 @@ ghost use Rattle.rc_world.specs.Lines.{Did, Ended};
 use crate::SessionFault;
 use crate::session::Session;
 use rc_ids::{DcId, Key, NoMemory, NodeId, TxId, Val};
-use rc_runs::Event;
 use rc_report::{Line, Lines, Which};
+use rc_runs::Event;
 use rc_script::Command;
 use std::alloc::Global;
 

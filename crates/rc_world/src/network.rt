@@ -8,8 +8,8 @@ ghost use Rattle.rc_world.specs.Networks.{new_network, passed, numbers_of, poste
 use crate::disk::counted;
 use rc_ids::{NoMemory, NodeId, Party};
 use rc_msg::{Envelope, Messages, encode};
-use rc_runs::Event;
 use rc_report::Which;
+use rc_runs::Event;
 use std::alloc::Global;
 use std::collections::VecDeque;
 use std::marker::Model;

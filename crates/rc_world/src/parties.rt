@@ -1,5 +1,5 @@
 // All that act: nodes with their disks, clients, and the order of what the votes chose.
-ghost use Rattle.std.specs.Prelude.{◌≡◌, ◌+◌, ◌<◌, ◌++◌, ℕ, [], Some, None, true, false, IsTrue, OnOk, IfOk, IfErr, List, length, map, slice_get, nat_le, ◌-◌, ◌*◌, ◌&&◌, if◌then◌else◌, Ok};
+ghost use Rattle.std.specs.Prelude.{◌≡◌, ◌+◌, ◌<◌, ◌++◌, ℕ, [], Some, None, true, false, IsTrue, OnOk, IfOk, IfErr, List, length, map, slice_get, if◌then◌else◌, Ok};
 ghost use Rattle.std.specs.Option.{option_copied};
 ghost use Rattle.std.specs.Ordering.{nat_cmp};
 ghost use Rattle.rc_ids.specs.Cluster.{is_dc};
@@ -8,10 +8,9 @@ ghost use Rattle.rc_protocol.specs.Nodes.{coord_index, shard_index};
 ghost use Rattle.rc_runs.specs.Refusals.{named_wrongly, is_begun as is_begun_lem};
 ghost use Rattle.rc_body.specs.declared.entry.Entry.{Entry};
 ghost use Rattle.rc_protocol.specs.Client.{Client as ClientState};
-ghost use Rattle.rc_runs.specs.World.{coord_does, shard_does, client_does, with_new_client, is_up as is_up_lem, stops, restarts, Idle};
+ghost use Rattle.rc_runs.specs.World.{is_shard_of as is_shard_of_lem, with_new_client, is_up as is_up_lem, stops, restarts, Idle};
 ghost use Rattle.rc_ids.specs.declared.names.NodeId.TheVariants.{Coord as CoordName, Shard as ShardName};
 ghost use Rattle.std.specs.List.{flat_map};
-ghost use Rattle.std.specs.Prelude.{◌≤◌};
 ghost use Rattle.rc_ids.specs.Tables.{up_to};
 ghost use Rattle.rc_runs.specs.Script.{shown_lines};
 ghost use Rattle.rc_world.specs.Lines.{host_at, shown_at};
@@ -19,22 +18,22 @@ ghost use Rattle.rc_runs.specs.Stored.{in_memory, new_session};
 ghost use Rattle.rc_world.specs.Networks.{new_network};
 ghost use Rattle.rc_world.specs.Starts.{coord_sites, shard_sites};
 ghost use Rattle.rc_world.specs.Sessions.{session_of};
-ghost use Rattle.rc_world.specs.Hosts.{coord_act, shard_act, coord_nodes, shard_nodes};
-ghost use Rattle.rc_world.specs.Acted.{housed, does_by, deed_work, stop_work, arm_work, start_work, client_act, Acted, Refuses, May, MayAct, is_full_for};
+ghost use Rattle.rc_world.specs.Hosts.{coord_nodes, shard_nodes};
+ghost use Rattle.rc_world.specs.Acted.{housed, does_by, deed_work, stop_work, arm_work, start_work, command_for, Acted, Refuses, May, MayAct};
 
 use crate::clients::client_acts;
 use crate::coord_host::CoordHost;
 use crate::coords::{coord_acts, coord_arms, coord_starts, coord_stops};
 use crate::fault::ActFault;
 use crate::shard_host::ShardHost;
-use crate::shards::{shard_acts, shard_arms, shard_opens, shard_starts, shard_stops};
+use crate::shards::{shard_acts, shard_arms, shard_starts, shard_stops};
 use crate::starts::{new_coords, new_shards};
 use rc_body::Body;
 use rc_client::{Client, Phase};
 use rc_ids::{Cluster, DcId, Key, NoMemory, NodeId, Party, ShardId, TxId};
 use rc_msg::{Envelope, Messages};
-use rc_runs::Event;
 use rc_report::{Lines, Wrong};
+use rc_runs::Event;
 use std::alloc::Global;
 use std::collections::BTreeMap;
 use std::marker::Model;
@@ -89,11 +88,11 @@ impl Parties {
         event: &Event,
         lines: &mut Lines,
     ) -> Result<Messages, ActFault>
-        ensures done { IfOk result (λ out. let deed = coord_does self.old.parties dc (coord_act self.old.parties.layout dc sent.now event.now) in
+        ensures done { IfOk result (λ out. let deed = does_by self.old.parties sent.now event.now (Party.Node (NodeId.Coord dc)) in
             Acted deed (deed_work self.old deed) self.old self.new out lines.old lines.new) }
-        ensures refused { IfErr result (λ e. Refuses e (coord_does self.old.parties dc (coord_act self.old.parties.layout dc sent.now event.now))) }
+        ensures refused { IfErr result (λ e. Refuses e (does_by self.old.parties sent.now event.now (Party.Node (NodeId.Coord dc)))) }
     {
-        if dc.0 as usize - 1 >= self.coords.len() {
+        if dc.0 > self.cluster.dcs() {
             return Ok(Messages::new(alloc));
         }
         coord_acts(
@@ -118,14 +117,13 @@ impl Parties {
         event: &Event,
         lines: &mut Lines,
     ) -> Result<Messages, NoMemory>
-        ensures { IfOk result (λ out. let deed = shard_does self.old.parties dc shard (shard_act self.old.parties.layout dc shard sent.now event.now) in
+        ensures { IfOk result (λ out. let deed = does_by self.old.parties sent.now event.now (Party.Node (NodeId.Shard dc shard)) in
             Acted deed (deed_work self.old deed) self.old self.new out lines.old lines.new) }
     {
-        let shards = self.cluster.shards();
-        if shard.0 > shards {
+        if !is_shard_of(&self.cluster, dc, shard) {
             return Ok(Messages::new(alloc));
         }
-        let place = (dc.0 as usize - 1) * shards as usize + (shard.0 as usize - 1);
+        let place = place_of(&self.cluster, dc, shard);
         if place >= self.shards.len() {
             return Ok(Messages::new(alloc));
         }
@@ -151,10 +149,10 @@ impl Parties {
         event: &Event,
         lines: &mut Lines,
     ) -> Result<Messages, ActFault>
-        requires { (x : ClientState) → found nat_cmp self.old.parties.clients tx ≡ Some x → May event.now x }
-        ensures done { IfOk result (λ out. let deed = client_does self.old.parties tx (client_act self.old.parties.layout tx sent.now event.now) in
+        requires { (x : ClientState) → found nat_cmp self.old.parties.clients tx ≡ Some x → May sent.now event.now x }
+        ensures done { IfOk result (λ out. let deed = does_by self.old.parties sent.now event.now (Party.Client tx) in
             Acted deed (deed_work self.old deed) self.old self.new out lines.old lines.new) }
-        ensures refused { IfErr result (λ e. Refuses e (client_does self.old.parties tx (client_act self.old.parties.layout tx sent.now event.now))) }
+        ensures refused { IfErr result (λ e. Refuses e (does_by self.old.parties sent.now event.now (Party.Client tx))) }
     {
         client_acts(
             &mut self.clients,
@@ -178,7 +176,7 @@ impl Parties {
         event: &Event,
         lines: &mut Lines,
     ) -> Result<Messages, ActFault>
-        requires { MayAct self.old.parties party.now event.now }
+        requires { MayAct self.old.parties sent.now party.now event.now }
         ensures done { IfOk result (λ out. let deed = does_by self.old.parties sent.now event.now party.now in
             Acted deed (deed_work self.old deed) self.old self.new out lines.old lines.new) }
         ensures refused { IfErr result (λ e. Refuses e (does_by self.old.parties sent.now event.now party.now)) }
@@ -204,7 +202,7 @@ impl Parties {
 
     /// What is wrong with the name of a transaction whose client is to take a command.
     pub(crate) fn misnamed(&self, tx: TxId, wants_open: bool, key: Option<&Key>) -> Option<Wrong>
-        ensures { result ≡ named_wrongly self.now.parties tx wants_open (is_full_for (option_copied key.entry)) }
+        ensures { result ≡ named_wrongly self.now.parties tx (command_for wants_open (option_copied key.entry)) }
     {
         let Some(client) = self.clients.get(&tx) else {
             return Some(Wrong::NotBegun(tx));
@@ -212,12 +210,11 @@ impl Parties {
         if client.phase() == Phase::Vanished {
             return Some(Wrong::Vanished(tx));
         }
+        if !wants_open {
+            return None;
+        }
         if !client.is_open() {
-            return if wants_open {
-                Some(Wrong::NotOpen(tx))
-            } else {
-                None
-            };
+            return Some(Wrong::NotOpen(tx));
         }
         match key {
             Some(key) if client.is_full(key) => Some(Wrong::TooManyKeys(tx)),
@@ -237,9 +234,9 @@ impl Parties {
         ensures { result ≡ is_up_lem self.now.parties node.now }
     {
         match node {
-            NodeId::Coord(dc) => coord_is_up(self.coords.as_slice(), *dc),
+            NodeId::Coord(dc) => coord_is_up(&self.cluster, self.coords.as_slice(), *dc),
             NodeId::Shard(dc, shard) => {
-                shard_is_up(self.shards.as_slice(), self.cluster.shards(), *dc, *shard)
+                shard_is_up(&self.cluster, self.shards.as_slice(), *dc, *shard)
             }
         }
     }
@@ -261,6 +258,13 @@ impl Parties {
         }
         Ok(txs)
     }
+}
+
+/// Whether the shard server is one of the world.
+fn is_shard_of(cluster: &Cluster, dc: DcId, shard: ShardId) -> bool
+    ensures { result ≡ is_shard_of_lem cluster.now dc shard }
+{
+    dc.0 <= cluster.dcs() && shard.0 <= cluster.shards()
 }
 
 /// The place of a shard server.
@@ -335,14 +339,13 @@ impl Parties {
     fn restart_coord(&mut self, alloc: Global, dc: DcId) -> Result<Messages, NoMemory>
         ensures { IfOk result (λ out. Acted (restarts self.old.parties (CoordName dc)) (start_work self.old (CoordName dc)) self.old self.new out [] []) }
     {
-        if dc.0 as usize - 1 >= self.coords.len() {
+        if dc.0 > self.cluster.dcs() {
             return Ok(Messages::new(alloc));
         }
         coord_starts(&mut self.coords, alloc, &self.cluster, dc)
     }
 
-    /// A shard server starts from its log, and begins to catch up. Outside the world nobody does; where its place is that
-    /// of another shard server, the log of that one is opened.
+    /// A shard server starts from its log, and begins to catch up. Outside the world nobody does.
     fn restart_shard(
         &mut self,
         alloc: Global,
@@ -351,12 +354,11 @@ impl Parties {
     ) -> Result<Messages, NoMemory>
         ensures { IfOk result (λ out. Acted (restarts self.old.parties (ShardName dc shard)) (start_work self.old (ShardName dc shard)) self.old self.new out [] []) }
     {
-        let place = place_of(&self.cluster, dc, shard);
-        if place >= self.shards.len() {
+        if !is_shard_of(&self.cluster, dc, shard) {
             return Ok(Messages::new(alloc));
         }
-        if shard.0 > self.cluster.shards() {
-            shard_opens(&mut self.shards, place)?;
+        let place = place_of(&self.cluster, dc, shard);
+        if place >= self.shards.len() {
             return Ok(Messages::new(alloc));
         }
         shard_starts(&mut self.shards, place, alloc, dc)
@@ -383,55 +385,54 @@ impl Parties {
     ) -> Result<(), NoMemory>
         ensures { OnOk result (lines.new ≡ lines.old ++ shown_lines self.now.parties dc) }
     {
-        show_all(
-            self.shards.as_slice(),
-            alloc,
-            self.cluster.shards(),
-            dc,
-            lines,
-        )
+        show_all(&self.cluster, self.shards.as_slice(), alloc, dc, lines)
     }
 }
 
 /// Adds the lines that show a datacentre's shards.
 fn show_all(
+    cluster: &Cluster,
     shards: &[ShardHost],
     alloc: Global,
-    count: u8,
     dc: DcId,
     lines: &mut Lines,
 ) -> Result<(), NoMemory>
-    requires { count ≤ 8 }
-    ensures { OnOk result (lines.new ≡ lines.old ++ flat_map (shown_at (shard_nodes shards.now) count dc) (up_to count)) }
+    ensures { OnOk result (lines.new ≡ lines.old ++ flat_map (shown_at cluster.now (shard_nodes shards.now) dc) (up_to cluster.now.shards)) }
 {
-    for shard in 1..count + 1 {
-        show_one(shards, alloc, count, dc, ShardId(shard), lines)?;
+    let shards_in_dc = cluster.shards();
+    for shard in 1..shards_in_dc + 1 {
+        show_one(cluster, shards, alloc, dc, ShardId(shard), lines)?;
     }
     Ok(())
 }
 
 /// A shard server, by its datacentre and number.
-fn shard_host(shards: &[ShardHost], count: u8, dc: DcId, shard: ShardId) -> Option<&ShardHost>
-    ensures { option_copied result ≡ host_at shards.now count dc shard }
+fn shard_host<'a>(
+    cluster: &Cluster,
+    shards: &'a [ShardHost],
+    dc: DcId,
+    shard: ShardId,
+) -> Option<&'a ShardHost>
+    ensures { option_copied result ≡ host_at cluster.now shards.now dc shard }
 {
-    if shard.0 > count {
+    if !is_shard_of(cluster, dc, shard) {
         return None;
     }
-    shards.get((dc.0 as usize - 1) * count as usize + (shard.0 as usize - 1))
+    shards.get(place_of(cluster, dc, shard))
 }
 
 /// Adds the lines that show a shard server.
 fn show_one(
+    cluster: &Cluster,
     shards: &[ShardHost],
     alloc: Global,
-    count: u8,
     dc: DcId,
     shard: ShardId,
     lines: &mut Lines,
 ) -> Result<(), NoMemory>
-    ensures { OnOk result (lines.new ≡ lines.old ++ shown_at (shard_nodes shards.now) count dc shard) }
+    ensures { OnOk result (lines.new ≡ lines.old ++ shown_at cluster.now (shard_nodes shards.now) dc shard) }
 {
-    match shard_host(shards, count, dc, shard) {
+    match shard_host(cluster, shards, dc, shard) {
         None => Ok(()),
         Some(host) => host.show(alloc, dc, shard, lines),
     }
@@ -439,9 +440,12 @@ fn show_one(
 
 /// Whether the coordinator of a datacentre is up.
 #[tactic(auto, using(crate::proofs::Sites::node_at))]
-fn coord_is_up(coords: &[CoordHost], dc: DcId) -> bool
-    ensures { result ≡ maybe (slice_get (coord_nodes coords.now) (coord_index dc)) false (λ x. x.up) }
+fn coord_is_up(cluster: &Cluster, coords: &[CoordHost], dc: DcId) -> bool
+    ensures { result ≡ maybe (if is_dc cluster.now dc then slice_get (coord_nodes coords.now) (coord_index dc) else None) false (λ x. x.up) }
 {
+    if dc.0 > cluster.dcs() {
+        return false;
+    }
     match coords.get(dc.0 as usize - 1) {
         None => false,
         Some(host) => host.is_up(),
@@ -450,13 +454,13 @@ fn coord_is_up(coords: &[CoordHost], dc: DcId) -> bool
 
 /// Whether a shard server is up.
 #[tactic(auto, using(crate::proofs::Sites::shard_node_at))]
-fn shard_is_up(shards: &[ShardHost], count: u8, dc: DcId, shard: ShardId) -> bool
-    ensures { result ≡ (if nat_le 1 shard && nat_le shard count then maybe (slice_get (shard_nodes shards.now) ((dc - 1) * count + (shard - 1))) false (λ x. x.up) else false) }
+fn shard_is_up(cluster: &Cluster, shards: &[ShardHost], dc: DcId, shard: ShardId) -> bool
+    ensures { result ≡ maybe (if is_shard_of_lem cluster.now dc shard then slice_get (shard_nodes shards.now) (shard_index cluster.now dc shard) else None) false (λ x. x.up) }
 {
-    if shard.0 > count {
+    if !is_shard_of(cluster, dc, shard) {
         return false;
     }
-    match shards.get((dc.0 as usize - 1) * count as usize + (shard.0 as usize - 1)) {
+    match shards.get(place_of(cluster, dc, shard)) {
         None => false,
         Some(host) => host.is_up(),
     }

@@ -1,7 +1,7 @@
 // Shard servers at their places.
 ghost use Rattle.std.specs.Prelude.{◌≡◌, ◌<◌, ◌++◌, [], ◌∷◌, true, false, Some, OnOk, IfOk, length, slice_get, slice_set};
-ghost use Rattle.rc_world.specs.Hosts.{ShardSite, shard_act};
-ghost use Rattle.rc_world.specs.Acted.{ShardDone, ShardDid, ShardIdle, ShardStarts, ShardOpens, stopped_shard, armed_shard};
+ghost use Rattle.rc_world.specs.Hosts.{ShardSite, shard_part};
+ghost use Rattle.rc_world.specs.Acted.{ShardDone, ShardDid, ShardIdle, ShardStarts, stopped_shard, armed_shard};
 ghost use Rattle.rc_ids.specs.declared.names.NodeId.TheVariants.{Shard as ShardName};
 ghost use Rattle.rc_report.specs.declared.line.Line.TheVariants.{Stopped as StoppedLine};
 
@@ -9,8 +9,8 @@ use crate::disk::Course;
 use crate::shard_host::ShardHost;
 use rc_ids::{Cluster, DcId, NoMemory, NodeId, ShardId};
 use rc_msg::{Envelope, Messages};
-use rc_runs::Event;
 use rc_report::{Line, Lines};
+use rc_runs::Event;
 use std::alloc::Global;
 
 /// A shard server does its part in an event. Where it stops inside that, it sends nothing.
@@ -24,7 +24,7 @@ fn act_at(
     event: &Event,
     lines: &mut Lines,
 ) -> Result<Messages, NoMemory>
-    ensures { IfOk result (λ out. ShardDone dc shard (shard_act cluster.now dc shard sent.now event.now host.old.node) host.old host.new out lines.old lines.new) }
+    ensures { IfOk result (λ out. ShardDone dc shard (shard_part cluster.now dc shard sent.now event.now host.old.node) host.old host.new out lines.old lines.new) }
 {
     let mut out = Messages::new(alloc);
     let course = host.act(alloc, cluster, dc, shard, sent, event, &mut out)?;
@@ -53,7 +53,7 @@ pub(crate) fn shard_acts(
     ensures idle { IfOk result (λ out. (h : ShardSite) → slice_get shards.old.items place ≡ Some h → h.node.up ≡ false
         → ShardIdle shards.old.items shards.new.items out lines.old lines.new) }
     ensures did { IfOk result (λ out. (h : ShardSite) → slice_get shards.old.items place ≡ Some h → h.node.up ≡ true
-        → ShardDid dc shard place (shard_act cluster.now dc shard sent.now event.now h.node) h shards.old.items shards.new.items out lines.old lines.new) }
+        → ShardDid dc shard place (shard_part cluster.now dc shard sent.now event.now h.node) h shards.old.items shards.new.items out lines.old lines.new) }
 {
     if !shards[place].is_up() {
         return Ok(Messages::new(alloc));
@@ -108,12 +108,4 @@ pub(crate) fn shard_starts(
     let mut out = Messages::new(alloc);
     shards[place].restart(dc, &mut out)?;
     Ok(out)
-}
-
-/// The log of the shard server at a place is opened, if it is not.
-pub(crate) fn shard_opens(shards: &mut Vec<ShardHost>, place: usize) -> Result<(), NoMemory>
-    requires { place < length shards.old.items }
-    ensures { OnOk result ((h : ShardSite) → slice_get shards.old.items place ≡ Some h → ShardOpens place h shards.old.items shards.new.items) }
-{
-    shards[place].open_once()
 }

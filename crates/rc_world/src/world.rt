@@ -17,8 +17,8 @@ use crate::network::{Network, addressed, bytes_of, message, same_party};
 use crate::parties::Parties;
 use rc_ids::{NoMemory, NodeId, Party, Text};
 use rc_msg::{Envelope, Messages};
-use rc_runs::Event;
 use rc_report::{Line, Lines, Which, Wrong, render};
+use rc_runs::Event;
 use std::alloc::Global;
 
 /// The most transactions that are begun in a run.

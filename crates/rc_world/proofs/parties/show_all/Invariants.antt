@@ -6,4 +6,4 @@ use Rattle.rc_world.specs.Lines.{shown_at}
 use Rattle.rc_world.proofs.parties.show_all.Given as goal
 
 abbrev pub invariant-loop-shard : goal.invariant-loop-shard
-invariant-loop-shard l = l.lines ≡ l.initial.lines ++ flat_map (shown_at (shard_nodes l.shards) l.count l.dc) (up_to (l.shard - 1))
+invariant-loop-shard l = l.lines ≡ l.initial.lines ++ flat_map (shown_at l.cluster (shard_nodes l.shards) l.dc) (up_to (l.shard - 1))
