@@ -163,16 +163,18 @@ impl Net {
         Ok(())
     }
 
-    /// Whether the message, which was sent, is pending.
+    /// Whether the message, which was sent, is pending. The numbers of the pending ones rise.
     fn is_pending(&self, n: u32) -> bool
         requires { is_some (message self.now.sent n) ≡ true }
-        ensures { result ≡ member nat_cmp self.now.pending n }
+        ensures rising { IsRisingWithin 1 (length self.now.sent) self.now.pending }
+        ensures pending { result ≡ member nat_cmp self.now.pending n }
     {
         is_pending(&self.parcels, n, self.near)
     }
 
-    /// Loses the message: it is pending no longer. It was neither delivered nor lost before.
+    /// Loses the message: it is pending no longer. It was neither delivered nor lost before. The numbers of the pending ones rise.
     pub fn lose(&mut self, n: u32) -> Result<(), NetFault>
+        ensures rising { OnOk result (IsRisingWithin 1 (length self.old.sent) self.old.pending) }
         ensures fault { MatchResult result (λ _. loss_fault self.old.sent self.old.pending n ≡ None) (λ e. loss_fault self.old.sent self.old.pending n ≡ Some e) }
         ensures sent { self.new.sent ≡ self.old.sent }
         ensures pending { OnOk result (self.new.pending ≡ removed nat_cmp self.old.pending n) }
