@@ -1,3 +1,3 @@
-mod KeptFacts
+pub mod KeptFacts
 mod MarkFacts
 mod ParcelFacts

@@ -1,5 +1,5 @@
 -- Lists of messages one after another: where a message is, and what a change of its list makes of them all.
-use Rattle.std.proofs.Common.{◌≡◌, ℕ, zero, suc, ◌+◌, ◌-◌, ◌<◌, ◌≤◌, nat_le, Bool, true, false, List, [], ◌∷◌, ◌++◌, length, take, replicate, get_or, slice_get, slice_set, Some, refl, sym, ap, subst, ◌∙◌, arith, add-one, length-append}
+use Rattle.std.proofs.Common.{◌≡◌, ℕ, zero, suc, ◌+◌, ◌-◌, ◌<◌, ◌≤◌, nat_le, nat_lt, IsTrue, Bool, true, false, List, [], ◌∷◌, ◌++◌, length, take, replicate, get_or, slice_get, slice_set, Some, refl, sym, ap, subst, ◌∙◌, arith, add-one, length-append}
 use Rattle.std.specs.List.{flat_map}
 use Rattle.std.specs.List.Sorted.{IsPartitionedBy}
 use Rattle.std.proofs.lemmas.List.{length-map, set-append_left}
@@ -38,6 +38,45 @@ parted n b (p ∷ ps) num zero (suc j) d le lt reached =
     true_le p.first n (omega (arith, far, upto, e))
 parted n b (p ∷ ps) num (suc i) zero d le lt reached = absurd (omega arith)
 parted n b (p ∷ ps) num (suc i) (suc j) d le lt reached = parted n (b + length p.letters) ps num.1 i j d (omega arith) (omega arith) reached
+
+pub lt_is : (a b : ℕ) → IsTrue (nat_lt a b) → a < b
+lt_is a b h = grind arith
+
+same_or : (ps : List Parcel) (k : ℕ) (d e : Parcel) → k < length ps → get_or ps k d ≡ get_or ps k e
+same_or [] k d e lt = absurd (omega arith)
+same_or (p ∷ ps) zero d e lt = refl
+same_or (p ∷ ps) (suc k) d e lt = same_or ps k d e (omega arith)
+
+not_reached : (a b : Bool) → (b ≡ true → a ≡ true) → a ≡ false → b ≡ false
+not_reached a true leads failing = absurd (cc (leads refl, failing))
+not_reached a false leads failing = refl
+
+-- so many lists begin at message n or before it, if the last of them does
+pub count_all : (n k : ℕ) (ps : List Parcel) (p : Parcel) → Numbered 1 ps → suc k ≡ length ps → p ≡ get_or ps k p → p.first ≤ n → IsCount ps n (suc k)
+count_all n k ps p num all is le = record {
+  few = omega (arith, all);
+  point = (
+    λ i d low lt. parted n 1 ps num i k d (omega arith) (omega (arith, all))
+        (true_le (get_or ps k d).first n (subst (λ (q : Parcel). q.first ≤ n) (is ∙ same_or ps k p d (omega (arith, all))) le)),
+    λ i d low lt. absurd (omega (arith, all)),
+  );
+}
+
+-- and if the one after them does not
+pub count_some : (n k : ℕ) (ps : List Parcel) (p q : Parcel) → Numbered 1 ps → suc k < length ps → p ≡ get_or ps k p → p.first ≤ n → q ≡ get_or ps (suc k) q
+    → n < q.first → IsCount ps n (suc k)
+count_some n k ps p q num more is le next lt = record {
+  few = omega arith;
+  point = (
+    λ i d low under. parted n 1 ps num i k d (omega arith) (omega arith)
+        (true_le (get_or ps k d).first n (subst (λ (r : Parcel). r.first ≤ n) (is ∙ same_or ps k p d (omega arith)) le)),
+    λ i d low under. not_reached (reaches n (get_or ps (suc k) d)) (reaches n (get_or ps i d)) (λ reached. parted n 1 ps num (suc k) i d low under reached)
+        (above (get_or ps (suc k) d).first n (subst (λ (r : Parcel). n < r.first) (next ∙ same_or ps (suc k) q d more) lt)),
+  );
+}
+  where
+    above : (a b : ℕ) → b < a → nat_le a b ≡ false
+    above a b lt = grind arith
 
 -- a list that begins at message n or before it is there, if the first does
 pub some_count : (b n r : ℕ) (ps : List Parcel) → Numbered b ps → b ≤ n → n < b + count_in ps → IsCount ps n r → 1 ≤ r

@@ -9,4 +9,4 @@ mod parcel;
 mod tests;
 
 pub use fault::NetFault;
-pub use net::{Net, Sent};
+pub use net::{Net, Sent, same_party};

@@ -6,7 +6,7 @@ ghost use Rattle.rc_net.specs.Parcels.{Numbered, count_in, sent_in, marks_in, Is
 use crate::parcel::{Parcel, is_pending, settle};
 
 /// The place, counted from 0, of the first pending message from a place on; where there is none, how many were sent.
-pub fn next_pending(parcels: &[Parcel], sent: u32, from: u32) -> u32
+pub fn next_pending(parcels: &[Parcel], sent: u32, from: u32, near: usize) -> u32
     requires numbered { Numbered 1 parcels.now }
     requires count { sent ≡ count_in parcels.now }
     requires within { from ≤ sent }
@@ -16,14 +16,14 @@ pub fn next_pending(parcels: &[Parcel], sent: u32, from: u32) -> u32
     ensures high { result ≤ sent }
 {
     let mut place = from;
-    while place < sent && !is_pending(parcels, place + 1) {
+    while place < sent && !is_pending(parcels, place + 1, near) {
         place += 1;
     }
     place
 }
 
 /// Takes the mark of the message away, and says how many of the first messages are settled then.
-pub fn settle_one(parcels: &mut [Parcel], sent: u32, settled: u32, n: u32) -> u32
+pub fn settle_one(parcels: &mut [Parcel], sent: u32, settled: u32, n: u32, near: usize) -> u32
     requires numbered { Numbered 1 parcels.old }
     requires count { sent ≡ count_in parcels.old }
     requires within { settled ≤ sent }
@@ -33,12 +33,12 @@ pub fn settle_one(parcels: &mut [Parcel], sent: u32, settled: u32, n: u32) -> u3
     ensures marks { marks_in parcels.new ≡ slice_set (marks_in parcels.old) (n - 1) false }
     ensures sent { sent_in parcels.new ≡ sent_in parcels.old }
 {
-    settle(parcels, n);
-    next_pending(parcels, sent, settled)
+    settle(parcels, n, near);
+    next_pending(parcels, sent, settled, near)
 }
 
 /// The first pending message after this one. The first messages are settled, and so many.
-pub fn first_after(parcels: &[Parcel], sent: u32, settled: u32, n: u32) -> Option<u32>
+pub fn first_after(parcels: &[Parcel], sent: u32, settled: u32, n: u32, near: usize) -> Option<u32>
     requires numbered { Numbered 1 parcels.now }
     requires count { sent ≡ count_in parcels.now }
     requires within { settled ≤ sent }
@@ -48,7 +48,7 @@ pub fn first_after(parcels: &[Parcel], sent: u32, settled: u32, n: u32) -> Optio
     if sent <= n {
         return None;
     }
-    let place = next_pending(parcels, sent, n.max(settled));
+    let place = next_pending(parcels, sent, n.max(settled), near);
     if sent <= place {
         return None;
     }

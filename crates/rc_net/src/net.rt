@@ -4,13 +4,13 @@ ghost use Rattle.std.specs.Option.{option_map};
 ghost use Rattle.std.specs.Ordering.{nat_cmp};
 ghost use Rattle.rc_ids.specs.Tables.{member, removed};
 ghost use Rattle.rc_ids.specs.Sets.{IsRisingWithin};
-ghost use Rattle.rc_net.specs.Network.{Network, bytes_of, message as message_lem, messages, one_message, numbers_after, letters_bytes, fits, delivery_fault, loss_fault};
+ghost use Rattle.rc_net.specs.Network.{Network, bytes_of, message, messages, one_message, numbers_after, letters_bytes, fits, delivery_fault, loss_fault};
 ghost use Rattle.rc_net.specs.Shown.{shown};
 ghost use Rattle.rc_net.specs.declared.fault.NetFault.TheVariants.{NoMemory as WithoutMemory, WireFull as Full};
 
 use crate::NetFault;
 use crate::marks::{first_after, settle_one};
-use crate::parcel::{Parcel, is_pending, left_after, post, seat};
+use crate::parcel::{Parcel, count_near, is_pending, left_after, post, seat};
 use rc_ids::{Blob, Letter, NoMemory, NodeId, Party, Sends};
 use std::alloc::Global;
 use std::marker::Model;
@@ -31,6 +31,8 @@ pub struct Net {
     sent: u32,
     settled: u32,
     left: usize,
+    /// How many lists begin at the oldest pending message or before it, or another number: where a message is looked for first.
+    near: usize,
 }
 
 impl Model for Net {
@@ -47,7 +49,7 @@ impl Model for Net {
 }
 
 /// The same party.
-fn same_party(party: &Party) -> Party
+pub fn same_party(party: &Party) -> Party
     ensures { result ≡ party.now }
 {
     match party {
@@ -74,6 +76,7 @@ impl Net {
             sent: 0,
             settled: 0,
             left: Self::MOST_BYTES,
+            near: 1,
         }
     }
 
@@ -99,24 +102,24 @@ impl Net {
     pub fn pending_after(&self, n: u32) -> Option<u32>
         ensures { result ≡ find (nat_lt n) self.now.pending }
     {
-        first_after(&self.parcels, self.sent, self.settled, n)
+        first_after(&self.parcels, self.sent, self.settled, n, self.near)
     }
 
     /// Whether a message has this number.
     pub fn is_sent(&self, n: u32) -> bool
-        ensures { result ≡ is_some (message_lem self.now.sent n) }
+        ensures { result ≡ is_some (message self.now.sent n) }
     {
         1 <= n && n <= self.sent
     }
 
     /// The message of this number.
     pub fn sent(&self, n: u32) -> Option<Sent<'_>>
-        ensures { option_map shown result ≡ message_lem self.now.sent n }
+        ensures { option_map shown result ≡ message self.now.sent n }
     {
         if !self.is_sent(n) {
             return None;
         }
-        let (list, place) = seat(&self.parcels, n);
+        let (list, place) = seat(&self.parcels, n, self.near);
         let parcel = &self.parcels[list];
         let letter = &parcel.letters.as_slice()[place];
         Some(Sent {
@@ -139,6 +142,11 @@ impl Net {
         Ok(())
     }
 
+    /// How many lists begin at the oldest pending message or before it.
+    fn oldest_list(&self) -> usize {
+        count_near(&self.parcels, self.settled + 1, self.near)
+    }
+
     /// Delivers the message, for the first time or again: it is pending no longer. `sent` has its bytes, before and after.
     pub fn deliver(&mut self, n: u32) -> Result<(), NetFault>
         ensures fault { MatchResult result (λ _. delivery_fault self.old.sent n ≡ None) (λ e. delivery_fault self.old.sent n ≡ Some e) }
@@ -150,20 +158,23 @@ impl Net {
         if !self.is_sent(n) {
             return Err(NetFault::NoSuchMessage);
         }
-        self.settled = settle_one(&mut self.parcels, self.sent, self.settled, n);
+        self.settled = settle_one(&mut self.parcels, self.sent, self.settled, n, self.near);
+        self.near = self.oldest_list();
         Ok(())
     }
 
-    /// Whether the message, which was sent, is pending.
+    /// Whether the message, which was sent, is pending. The numbers of the pending ones rise.
     fn is_pending(&self, n: u32) -> bool
-        requires { is_some (message_lem self.now.sent n) ≡ true }
-        ensures { result ≡ member nat_cmp self.now.pending n }
+        requires { is_some (message self.now.sent n) ≡ true }
+        ensures rising { IsRisingWithin 1 (length self.now.sent) self.now.pending }
+        ensures pending { result ≡ member nat_cmp self.now.pending n }
     {
-        is_pending(&self.parcels, n)
+        is_pending(&self.parcels, n, self.near)
     }
 
-    /// Loses the message: it is pending no longer. It was neither delivered nor lost before.
+    /// Loses the message: it is pending no longer. It was neither delivered nor lost before. The numbers of the pending ones rise.
     pub fn lose(&mut self, n: u32) -> Result<(), NetFault>
+        ensures rising { OnOk result (IsRisingWithin 1 (length self.old.sent) self.old.pending) }
         ensures fault { MatchResult result (λ _. loss_fault self.old.sent self.old.pending n ≡ None) (λ e. loss_fault self.old.sent self.old.pending n ≡ Some e) }
         ensures sent { self.new.sent ≡ self.old.sent }
         ensures pending { OnOk result (self.new.pending ≡ removed nat_cmp self.old.pending n) }
@@ -189,6 +200,13 @@ impl Net {
             return None;
         }
         left_after(letters, self.left)
+    }
+
+    /// Whether these messages fit.
+    pub fn has_room_for(&self, letters: &[Letter]) -> bool
+        ensures { result ≡ fits self.now.sent (length letters.now) (letters_bytes letters.now) }
+    {
+        self.left_after(letters).is_some()
     }
 
     /// Sends these messages in their order, and keeps their list. It takes no memory where room was made.

@@ -1,5 +1,5 @@
 // Lists of messages that were sent, each kept whole.
-ghost use Rattle.std.specs.Prelude.{◌≡◌, ◌-◌, ◌<◌, ◌≤◌, ◌+◌, length, false, true, replicate, slice_get, slice_set, Some, MatchOption, ◌++◌, vec_len, vec_capacity};
+ghost use Rattle.std.specs.Prelude.{◌≡◌, ◌-◌, ◌<◌, ◌≤◌, ◌+◌, length, false, true, replicate, slice_get, slice_set, Some, IsTrue, MatchOption, ◌++◌, vec_len, vec_capacity};
 ghost use Rattle.rc_ids.specs.declared.names.Party.{Party as Sender};
 ghost use Rattle.rc_net.specs.Network.{messages, letters_bytes};
 ghost use Rattle.rc_net.specs.Parcels.{Numbered, IsSeat, IsCount, count_in, sent_in, marks_in, marks_of};
@@ -23,31 +23,66 @@ fn count_up_to(parcels: &[Parcel], n: u32) -> usize
     parcels.partition_point(|parcel| parcel.first <= n)
 }
 
-/// Where the message is: the place of its list, and its own place there, both counted from 0.
-pub fn seat(parcels: &[Parcel], n: u32) -> (usize, usize)
+/// Whether so many lists, and not none, begin at this message or before it, and no others.
+fn is_count(parcels: &[Parcel], n: u32, count: usize) -> bool
+    requires numbered { Numbered 1 parcels.now }
+    requires some { 0 < count }
+    ensures { IsTrue result → IsCount parcels.now n count }
+{
+    if parcels.len() < count {
+        return false;
+    }
+    if n < parcels[count - 1].first {
+        return false;
+    }
+    if count == parcels.len() {
+        return true;
+    }
+    n < parcels[count].first
+}
+
+/// How many lists begin at this message or before it, looked for first near such a count.
+pub fn count_near(parcels: &[Parcel], n: u32, near: usize) -> usize
+    requires { Numbered 1 parcels.now }
+    ensures { IsCount parcels.now n result }
+{
+    if 0 < near && near < parcels.len() {
+        if is_count(parcels, n, near) {
+            return near;
+        }
+        if is_count(parcels, n, near + 1) {
+            return near + 1;
+        }
+    }
+    count_up_to(parcels, n)
+}
+
+/// Where the message is: the place of its list, and its own place there, both counted from 0. It is looked for first near a count of
+/// lists.
+pub fn seat(parcels: &[Parcel], n: u32, near: usize) -> (usize, usize)
     requires numbered { Numbered 1 parcels.now }
     requires low { 1 ≤ n }
     requires high { n ≤ count_in parcels.now }
     ensures { IsSeat parcels.now (n - 1) result.0 result.1 }
 {
-    let list = count_up_to(parcels, n) - 1;
+    let list = count_near(parcels, n, near) - 1;
     (list, (n - parcels[list].first) as usize)
 }
 
 /// Whether the message is pending.
-pub fn is_pending(parcels: &[Parcel], n: u32) -> bool
+pub fn is_pending(parcels: &[Parcel], n: u32, near: usize) -> bool
     requires numbered { Numbered 1 parcels.now }
     requires low { 1 ≤ n }
     requires high { n ≤ count_in parcels.now }
     ensures { slice_get (marks_in parcels.now) (n - 1) ≡ Some result }
 {
-    let (list, place) = seat(parcels, n);
+    let (list, place) = seat(parcels, n, near);
     let letters = parcels[list].letters.as_slice();
     letters[place].mark
 }
 
 /// Takes the mark of the message away.
-pub fn settle(parcels: &mut [Parcel], n: u32)
+pub fn settle(parcels: &mut [Parcel], n: u32, near: usize)
     requires numbered { Numbered 1 parcels.old }
     requires low { 1 ≤ n }
     requires high { n ≤ count_in parcels.old }
@@ -56,7 +91,7 @@ pub fn settle(parcels: &mut [Parcel], n: u32)
     ensures numbered { Numbered 1 parcels.new }
     ensures count { count_in parcels.new ≡ count_in parcels.old }
 {
-    let (list, place) = seat(parcels, n);
+    let (list, place) = seat(parcels, n, near);
     let parcel = &mut parcels[list];
     parcel.letters.set_mark(place, false);
 }

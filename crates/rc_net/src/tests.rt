@@ -49,6 +49,7 @@ fn delivers_and_loses(rt: HostRuntime) -> Result<(), Fail> {
     let mut net = sent(rt.alloc())?;
     assert_eq!(rt; net.count(), 4);
     assert!(rt; net.is_sent(4) && !net.is_sent(5));
+    assert!(rt; net.has_room_for(two(rt.alloc())?.as_slice()));
     assert_eq!(rt; net.oldest(), Some(1));
     net.deliver(2)?;
     net.deliver(2)?;

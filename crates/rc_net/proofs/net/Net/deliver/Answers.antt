@@ -25,6 +25,13 @@ invariant_of-self c =
     let kept = subst (λ (ps : List Parcel). IsKept ps f.sent f.settled f.left) (sym c.deref_mut.ensures.value) c.self.invariant in
     subst (λ (ps : List Parcel). IsKept ps f.sent c.settle_one-self-inside.result f.left) (sym same) (c.settle_one-self-inside.ensures.kept f.left kept)
 
+pub invariant_of-self-2 : goal.invariant_of-self-2
+invariant_of-self-2 c =
+    let f = c.self.inside in
+    let same = with_items_is f.parcels c.settle_one-self-inside.new.parcels (omega arith) in
+    let kept = subst (λ (ps : List Parcel). IsKept ps f.sent f.settled f.left) (sym c.deref_mut.ensures.value) c.self.invariant in
+    subst (λ (ps : List Parcel). IsKept ps f.sent c.settle_one-self-inside.result f.left) (sym same) (c.settle_one-self-inside.ensures.kept f.left kept)
+
 pub returns-clause-fault : goal.returns-clause-fault
 returns-clause-fault c = delivery_some c.args.self.now.sent c.args.n (sym c.is_sent.ensures ∙ c.if-not-is_sent.false)
 

@@ -1,0 +1,5 @@
+pub mod Desks
+pub mod Hubs
+pub mod Numbers
+pub mod Walks
+pub mod Arrivals
