@@ -23,6 +23,9 @@ use Rattle.rc_agreement.proofs.Places.{coord_dc, dc_range}
 use Rattle.rc_agreement.proofs.Scenes.{Scene}
 use Rattle.rc_agreement.proofs.Ballots.{Vote}
 
+pub outcomes_differ : Committed ≡ Aborted → ⊥
+outcomes_differ e = cc
+
 -- VOTES
 vote_is : (outcome : Outcome) (t b : ℕ) (r : Record) → is_vote outcome t b r ≡ true → (o : Decision) × (outcome_of o ≡ outcome) × (r ≡ Accepted t b o)
 vote_is Committed t b (Accepted u a (Commit body)) e =

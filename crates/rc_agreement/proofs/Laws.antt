@@ -22,7 +22,7 @@ use Rattle.rc_agreement.proofs.Places.{node_is, server_is}
 use Rattle.rc_agreement.proofs.Scenes.{Scene, scene}
 use Rattle.rc_agreement.proofs.Ballots.{one_body}
 use Rattle.rc_agreement.proofs.Agreeing.{laws_at}
-use Rattle.rc_agreement.proofs.Choices.{choice_of, chosen_of}
+use Rattle.rc_agreement.proofs.Choices.{outcomes_differ, choice_of, chosen_of}
 use Rattle.rc_agreement.proofs.Agreed.{one_outcome}
 use Rattle.rc_agreement.proofs.Learning.{Learns, learned_choice, FinishesAt, Knows}
 use Rattle.rc_agreement.proofs.Stays as stays
@@ -31,9 +31,6 @@ use Rattle.rc_agreement.proofs.Ghosts.{with_ghosts, Ghost}
 use Rattle.rc_agreement.proofs.Reopened.{Whole}
 use Rattle.rc_agreement.proofs.Lives.{life_holds}
 use Rattle.rc_agreement.proofs.Printed as prints
-
-differ : Committed ≡ Aborted → ⊥
-differ e = cc
 
 module _ (c : Layout) (lay : IsLayout c) (earlier : List World) (w : World) (life : IsLife c earlier w) where
   g : Ghost (Whole c) (scene w)
@@ -46,7 +43,7 @@ module _ (c : Layout) (lay : IsLayout c) (earlier : List World) (w : World) (lif
   pub agrees : Agrees w
   agrees t x y =
       let i = g.holds.0.0 t in
-      one_outcome c t (s g) (laws_at c lay t (s g) i) i Committed Aborted differ (choice_of t (s g) Committed x) (choice_of t (s g) Aborted y)
+      one_outcome c t (s g) (laws_at c lay t (s g) i) i Committed Aborted outcomes_differ (choice_of t (s g) Committed x) (choice_of t (s g) Aborted y)
 
   pub votes_one_body : VotesOneBody w
   votes_one_body d e t a b x y p q is its h k =

@@ -19,6 +19,7 @@ use Rattle.rc_runs.specs.World.{Parties, coord_at, shard_at}
 use Rattle.rc_claims.specs.Outcomes.{is_named}
 use Rattle.rc_agreement.proofs.Cases.{on_cond, never, or_left, or_right}
 use Rattle.rc_agreement.proofs.Tables.{added_has, got_in, to_equal}
+use Rattle.rc_agreement.proofs.Lists.{any_some}
 use Rattle.rc_agreement.proofs.Places.{node_at, server_at, coord_dc, shard_there}
 use Rattle.rc_agreement.proofs.Said.{Said}
 
@@ -57,11 +58,6 @@ log_names t r n [] named h = absurd h
 log_names t r n (x ∷ rs) named (inl e) = log_keeps t rs (with_named named x) (subst (λ (y : Record). In t (with_named named y)) (sym e) (n named))
 log_names t r n (x ∷ rs) named (inr h) = log_names t r n rs (with_named named x) h
 
-any_in : {A : Type 0} (p : A → Bool) (xs : List A) (x : A) → In x xs → p x ≡ true → list_any p xs ≡ true
-any_in p [] x h e = absurd h
-any_in p (y ∷ xs) x (inl is) e = let z : p y ≡ true = ap p is ∙ e in rw z
-any_in p (y ∷ xs) x (inr h) e = or_right (p y) _ (any_in p xs x h e)
-
 -- what stands in a coordinator's log is named
 pub coord_named : (w : Parties) (d t : ℕ) (r : Record) → Names t r → In r (node_at w d).log → is_named w t ≡ true
 coord_named w d t r n h = go (coord_at w d) refl h
@@ -72,7 +68,7 @@ coord_named w d t r n h = go (coord_at w d) refl h
         let dc = coord_dc w d x is in
         let got : slice_get w.coords (coord_index d) ≡ Some x = rw dc at is in
         or_left (list_any (λ (y : CoordNode). member nat_cmp (with_log [] y.log) t) w.coords) _
-        (any_in (λ (y : CoordNode). member nat_cmp (with_log [] y.log) t) w.coords x (got_in w.coords (coord_index d) x got) (member-in (with_log [] x.log) t (log_names t r n x.log [] h)))
+        (any_some (λ (y : CoordNode). member nat_cmp (with_log [] y.log) t) w.coords x (got_in w.coords (coord_index d) x got) (member-in (with_log [] x.log) t (log_names t r n x.log [] h)))
 
 -- and in a shard server's
 pub shard_named : (w : Parties) (d sh t : ℕ) (r : Record) → Names t r → In r (server_at w d sh).log → is_named w t ≡ true
@@ -84,7 +80,7 @@ shard_named w d sh t r n h = go (shard_at w d sh) refl h
         let there = shard_there w d sh x is in
         let got : slice_get w.shards (shard_index w.layout d sh) ≡ Some x = rw there at is in
         or_right (list_any (λ (y : CoordNode). member nat_cmp (with_log [] y.log) t) w.coords) _
-        (any_in (λ (y : ShardNode). member nat_cmp (with_log [] y.log) t) w.shards x (got_in w.shards (shard_index w.layout d sh) x got) (member-in (with_log [] x.log) t (log_names t r n x.log [] h)))
+        (any_some (λ (y : ShardNode). member nat_cmp (with_log [] y.log) t) w.shards x (got_in w.shards (shard_index w.layout d sh) x got) (member-in (with_log [] x.log) t (log_names t r n x.log [] h)))
 
 -- WHAT IS LEFT of clients
 pub found_filter : (p : ℕ → Bool) (t : ℕ) (m : Table ℕ Client) → ((x : Client) → found nat_cmp (filter (λ (e : ℕ × Client). p e.0) m) t ≡ Some x → p t ≡ true)

@@ -11,23 +11,12 @@ use Rattle.rc_runs.specs.World.{World, Parties, Start, coord_at, shard_at, with_
 use Rattle.rc_runs.specs.Refusals.{Happening, run}
 use Rattle.rc_claims.specs.Outcomes.{is_named}
 use Rattle.rc_claims.specs.Lives.{reopened}
-use Rattle.rc_agreement.proofs.Cases.{some_is, or_case, or_left, or_right}
+use Rattle.rc_agreement.proofs.Cases.{or_case, or_left, or_right}
+use Rattle.rc_agreement.proofs.Lists.{any_set, any_map}
 use Rattle.rc_agreement.proofs.Places.{coord_dc, shard_there}
 use Rattle.rc_agreement.proofs.Scenes.{Scene, at, shard_in, act_of, shard_act_of, Keeps, run_keeps}
 use Rattle.rc_agreement.proofs.Named.{log_keeps}
 use Rattle.rc_agreement.proofs.Reopened.{open_node, open_server}
-
-module _ {A : Type 0} (p : A → Bool) where
-  any_set : (xs : List A) (i : ℕ) (x y : A) → slice_get xs i ≡ Some x → (p x ≡ true → p y ≡ true) → list_any p xs ≡ true → list_any p (slice_set xs i y) ≡ true
-  any_set [] i x y is up h = h
-  any_set (z ∷ xs) zero x y is up h =
-      ⊎_elim (λ (e : p z ≡ true). or_left (p y) (list_any p xs) (up (ap p (sym (some_is z x is)) ∙ e))) (λ e. or_right (p y) (list_any p xs) e) (or_case (p z) (list_any p xs) h)
-  any_set (z ∷ xs) (suc i) x y is up h =
-      ⊎_elim (λ (e : p z ≡ true). or_left (p z) (list_any p (slice_set xs i y)) e) (λ e. or_right (p z) (list_any p (slice_set xs i y)) (any_set xs i x y is up e)) (or_case (p z) (list_any p xs) h)
-
-any_map : {A B : Type 0} (p : B → Bool) (f : A → B) (xs : List A) → list_any p (map f xs) ≡ list_any (λ x. p (f x)) xs
-any_map p f [] = refl
-any_map p f (x ∷ xs) = ap (λ b. p (f x) || b) (any_map p f xs)
 
 log_grows : (t : ℕ) (xs ys : List Record) (named : List ℕ) → In t (with_log named xs) → In t (with_log named (xs ++ ys))
 log_grows t [] ys named h = log_keeps t ys named h

@@ -27,7 +27,7 @@ use Rattle.rc_agreement.proofs.Ballots.{Vote}
 use Rattle.rc_agreement.proofs.Votes.{new_vote, old_vote}
 use Rattle.rc_agreement.proofs.Agreeing.{new_node}
 use Rattle.rc_agreement.proofs.Choices.{ChosenIn, choice_of, chosen_of}
-use Rattle.rc_agreement.proofs.Longer.{Longer}
+use Rattle.rc_agreement.proofs.Longer.{Longer, longer_logged}
 use Rattle.rc_agreement.proofs.Stays.{chosen_on}
 use Rattle.rc_agreement.proofs.Listed.{or_first_false, or_second_false, or_more, listed_left, listed_last, once_more, new_more}
 
@@ -60,11 +60,7 @@ module _ (s : Scene) (p : Ordered s) (d : ℕ) (there : There s d) (up : Bool) (
   before = s.parties.committed
 
   longer : Longer s z
-  longer =
-      record {
-        layout = refl;
-        votes = λ t e b o w. put_each (λ e (n : CoordNode). Vote t s e b o → In (Accepted t b o) n.log) s.parties d (at s d) y r there (λ e _ h. h) (λ h. old_vote r (at s d).log (Accepted t b o) h) e w;
-      }
+  longer = longer_logged s d there y r refl sent
 
   vote_new : (t e b : ℕ) (o : Decision) → Vote t z e b o → Vote t s e b o ⊎ ((e ≡ d) × (r ≡ Some (Accepted t b o)))
   vote_new t e b o =

@@ -26,7 +26,7 @@ use Rattle.rc_agreement.proofs.Ballots.{Vote}
 use Rattle.rc_agreement.proofs.CoordKeeps.{node_after}
 use Rattle.rc_agreement.proofs.Agreeing.{AllAgree, agreeing_kept}
 use Rattle.rc_agreement.proofs.Choices.{Choice, ChosenIn, choice_of, chosen_of}
-use Rattle.rc_agreement.proofs.Longer.{Longer, longer_moved}
+use Rattle.rc_agreement.proofs.Longer.{Longer, longer_logged, longer_moved}
 use Rattle.rc_agreement.proofs.Ghosts.{Ghost, ghosts_kept}
 
 -- VOTES
@@ -40,11 +40,7 @@ silent_act : Option Record → CoordAct
 silent_act r = record { logs = r; after = new_coord_volatile; sends = []; spent = false }
 
 pub longer_started : (m : Scene) (d : ℕ) → There m d → Longer m (started m d)
-longer_started m d there =
-    record {
-      layout = refl;
-      votes = λ t e b o v. put_each (λ e (n : CoordNode). Vote t m e b o → In (Accepted t b o) n.log) m.parties d (at m d) (coord_started (at m d).log) None there (λ e _ h. h) (λ h. h) e v;
-    }
+longer_started m d there = longer_logged m d there (coord_started (at m d).log) None refl m.sent
 
 pub longer_kept : (s : Scene) → Keeps (Longer s)
 unfolding silent_act

@@ -9,7 +9,7 @@ use Rattle.rc_record.specs.ShardState.{version_at}
 use Rattle.rc_serial.specs.OneMap.{base}
 use Rattle.rc_agreement.proofs.Cases.{never}
 use Rattle.rc_agreement.proofs.Tables.{in_map}
-use Rattle.rc_serial_order.proofs.KeyFacts.{map_in}
+use Rattle.rc_agreement.proofs.Lists.{map_in}
 use Rattle.rc_serial_order.proofs.Rows.{EachRow, rows_set, set_rows_up, set_rows_has}
 use Rattle.rc_serial_order.proofs.Steps.{Steps, Writer, count, last_writer, writer_below}
 use Rattle.rc_serial_order.proofs.Bodies.{bodies, writes_find, writes_by}

@@ -19,7 +19,7 @@ use Rattle.rc_agreement.proofs.Said.{Said}
 use Rattle.rc_agreement.proofs.Learning.{Learns}
 use Rattle.rc_agreement.proofs.Named.{is_old}
 use Rattle.rc_agreement.proofs.Ghosts.{with_ghosts, Ghost, ghosts_kept, Haunted, haunted_kept}
-use Rattle.rc_serial_order.proofs.Serials.{ordered_learns}
+use Rattle.rc_serial_order.proofs.Conflicts.{ordered_learns}
 use Rattle.rc_serial_order.proofs.Asking.{IsNew}
 use Rattle.rc_serial_order.proofs.Freshness.{P, fresh_kept, fresh_start}
 use Rattle.rc_serial_order.proofs.Histories.{History, history_kept, Gone, past_of, life_history}

@@ -44,7 +44,7 @@ use Rattle.rc_serial_order.proofs.Slots.{Sound, GrantsIn, slots_kept}
 use Rattle.rc_serial_order.proofs.ClientKeeps.{drab_of, client_keeps}
 use Rattle.rc_serial_order.proofs.Bodies.{writes_by, touched_by}
 use Rattle.rc_serial_order.proofs.Stored.{Stored}
-use Rattle.rc_serial_order.proofs.Serials.{not_both}
+use Rattle.rc_serial_order.proofs.Conflicts.{not_both}
 use Rattle.rc_serial_order.proofs.AskRows.{Grants}
 use Rattle.rc_serial_order.proofs.Asking.{Routes, IsNew, Asking, asked, row, in_granted, Curious, curious_kept}
 

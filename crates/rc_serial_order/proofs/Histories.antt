@@ -40,7 +40,8 @@ use Rattle.rc_serial_order.proofs.Stored.{new_store}
 use Rattle.rc_serial_order.proofs.Asking.{Routes, Asking, Curious, curious_kept, new_asking}
 use Rattle.rc_serial_order.proofs.Bodies.{bodies}
 use Rattle.rc_serial_order.proofs.Steps.{Steps}
-use Rattle.rc_serial_order.proofs.Serials.{Serial, listed_in, one_won, won_chosen, all_learned, learned_ordered, serial_kept, new_serial}
+use Rattle.rc_serial_order.proofs.Conflicts.{one_won, won_chosen}
+use Rattle.rc_serial_order.proofs.Serials.{Serial, listed_in, all_learned, learned_ordered, serial_kept, new_serial}
 
 -- all that is kept
 abbrev pub History : Layout → List (ℕ × List Entry) → Scene → Type 0

@@ -17,7 +17,7 @@ use Rattle.rc_agreement.proofs.Tables.{in_map, in_left, in_right}
 use Rattle.rc_agreement.proofs.Scenes.{Scene, scene}
 use Rattle.rc_agreement.proofs.Agreeing.{laws_at}
 use Rattle.rc_agreement.proofs.Ghosts.{with_ghosts, Haunted}
-use Rattle.rc_serial_order.proofs.KeyFacts.{map_in}
+use Rattle.rc_agreement.proofs.Lists.{map_in}
 use Rattle.rc_serial_order.proofs.Means.{Wrote, learned_proposal}
 use Rattle.rc_serial_order.proofs.Slots.{Differ}
 use Rattle.rc_serial_order.proofs.Stored.{Stored}
