@@ -7,4 +7,3 @@ pub mod ShardSays
 pub mod Stopping
 pub mod Telling
 pub mod Refusing
-pub mod Clear

@@ -13,7 +13,7 @@ use Rattle.rc_report.specs.declared.line.Line.TheVariants.{Learned, Stopped, Up}
 use Rattle.rc_runs.specs.declared.event.Event.{Event}
 use Rattle.rc_runs.specs.declared.event.Event.TheVariants.{Restart}
 use Rattle.rc_protocol.specs.Client.{Client, ClientAct}
-use Rattle.rc_protocol.specs.Acts.{ClientCause, Hears, Reads, Writes, Commits, Cancels, Retries, Vanishes, client_act}
+use Rattle.rc_protocol.specs.Acts.{client_act}
 use Rattle.rc_runs.specs.World.{World, Parties, Deed, ByClient, replaced, joined, moved, starts, lines_of, course_deed, step, printed}
 use Rattle.rc_runs.specs.Refusals.{Happening, is_event, after_event, run, lines_at, lines}
 use Rattle.rc_claims.specs.Outcomes.{Chosen}
@@ -30,17 +30,7 @@ use Rattle.rc_agreement.proofs.Lives.{whole_kept, life_holds}
 use Rattle.rc_agreement.proofs.ClientLines.{act_prints}
 use Rattle.rc_causes.specs.Moments.{PrintsNow}
 use Rattle.rc_causes.specs.Printed.{PrintedIsChosen}
-use Rattle.rc_causes.proofs.Moves.{Move, Rests, ClientActs, CoordActs, CoordWakes, CoordHalts, CoordCrashes, ShardActs, ShardWakes, ShardHalts, ShardCrashes, move_of, ClientWhy}
-
--- a client acts in no event that begins a transaction
-pub client_joins : (w : Parties) (sent : List Envelope) (e : Event) (t : ℕ) (k : ClientCause) → ClientWhy sent e t k → joined w e ≡ w
-client_joins w sent e t (Hears m) why = ap (joined w) why.2
-client_joins w sent e t (Reads k) why = ap (joined w) why
-client_joins w sent e t (Writes k value) why = ap (joined w) why
-client_joins w sent e t Commits why = ap (joined w) why
-client_joins w sent e t (Cancels k) why = ap (joined w) why
-client_joins w sent e t Retries why = ap (joined w) why
-client_joins w sent e t Vanishes why = ap (joined w) why
+use Rattle.rc_causes.proofs.Moves.{Move, Rests, ClientActs, CoordActs, CoordWakes, CoordHalts, CoordCrashes, ShardActs, ShardWakes, ShardHalts, ShardCrashes, move_of, client_joins}
 
 -- t's client holds the outcome, and the client alone changed
 pub record TellsNow (w : Parties) (t : ℕ) (outcome : Outcome) (after : Parties) : Type 0 where

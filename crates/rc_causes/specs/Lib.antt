@@ -3,4 +3,3 @@ pub mod Moments
 pub mod Printed
 pub mod Stops
 pub mod Refused
-pub mod Aborts

@@ -11,7 +11,6 @@ ghost use Rattle.rc_claims.specs.Lives.{IsLife};
 ghost use Rattle.rc_causes.specs.Printed.{PrintedIsChosen, LinesHaveMoments};
 ghost use Rattle.rc_causes.specs.Stops.{StopsHaveCauses};
 ghost use Rattle.rc_causes.specs.Refused.{RefusalsHaveCauses};
-ghost use Rattle.rc_causes.specs.Aborts.{Begins, AbortsHaveCauses};
 
 /// Each line of a run is printed in one of its happenings, and each outcome that is printed is chosen.
 pub fn printed_outcomes()
@@ -28,9 +27,4 @@ pub fn stops_have_causes()
 pub fn refusals_have_causes()
     ensures { (c : Layout) (start : Start) (coords : List CoordNode) (shards : List ShardNode) (before : List Happening) (now : Happening)
         → RefusalsHaveCauses (started_world c start coords shards) before now }
-{}
-
-/// An abort that is printed is chosen, after the transaction was taken over by command or refused by a quorum, in every life.
-pub fn aborts_have_causes()
-    ensures { (c : Layout) → IsLayout c → (w : World) → Begins c w → (before : List Happening) (now : Happening) → AbortsHaveCauses c w before now }
 {}
