@@ -7,3 +7,7 @@ pub mod ShardSays
 pub mod Stopping
 pub mod Telling
 pub mod Refusing
+pub mod Clear
+pub mod Aborting
+pub mod AbortLaw
+pub mod Calling

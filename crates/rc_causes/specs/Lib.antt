@@ -3,3 +3,5 @@ pub mod Moments
 pub mod Printed
 pub mod Stops
 pub mod Refused
+pub mod Aborts
+pub mod Calls

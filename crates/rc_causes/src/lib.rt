@@ -7,10 +7,13 @@ ghost use Rattle.rc_ids.specs.Cluster.{Layout, IsLayout};
 ghost use Rattle.rc_protocol.specs.Nodes.{CoordNode, ShardNode};
 ghost use Rattle.rc_runs.specs.World.{World, Start, started_world};
 ghost use Rattle.rc_runs.specs.Refusals.{Happening};
+ghost use Rattle.rc_runs.specs.Devices.{Device};
 ghost use Rattle.rc_claims.specs.Lives.{IsLife};
 ghost use Rattle.rc_causes.specs.Printed.{PrintedIsChosen, LinesHaveMoments};
 ghost use Rattle.rc_causes.specs.Stops.{StopsHaveCauses};
 ghost use Rattle.rc_causes.specs.Refused.{RefusalsHaveCauses};
+ghost use Rattle.rc_causes.specs.Aborts.{Begins, AbortsHaveCauses};
+ghost use Rattle.rc_causes.specs.Calls.{AppendsAreTold};
 
 /// Each line of a run is printed in one of its happenings, and each outcome that is printed is chosen.
 pub fn printed_outcomes()
@@ -27,4 +30,15 @@ pub fn stops_have_causes()
 pub fn refusals_have_causes()
     ensures { (c : Layout) (start : Start) (coords : List CoordNode) (shards : List ShardNode) (before : List Happening) (now : Happening)
         → RefusalsHaveCauses (started_world c start coords shards) before now }
+{}
+
+/// An abort that is printed is chosen, after the transaction was taken over by command or refused by a quorum, in every life.
+pub fn aborts_have_causes()
+    ensures { (c : Layout) → IsLayout c → (w : World) → Begins c w → (before : List Happening) (now : Happening) → AbortsHaveCauses c w before now }
+{}
+
+/// An append makes four calls, as many as up to the one that failed, or none where its log is full; and it fails at no other call than one
+/// that is listed or at which an armed cut falls.
+pub fn devices_are_told()
+    ensures { (d : Device) → AppendsAreTold d }
 {}

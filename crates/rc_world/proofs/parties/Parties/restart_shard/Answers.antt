@@ -8,7 +8,7 @@ use Rattle.rc_world.proofs.parties.Parties.restart_shard.Goals as goal
 pub returns-then-not-is_shard_of : goal.returns-then-not-is_shard_of
 returns-then-not-is_shard_of c =
     let outside : is_shard_of c.self.inside.cluster c.args.dc c.args.shard ≡ false = (cc) in
-    shard_start_outside c.self.inside.cluster _ _ _ _ _ c.args.dc c.args.shard _ _ c.self.view_is (λ is. absurd (cc)) c.new-then-not-is_shard_of.ensures
+    shard_start_outside c.self.inside.cluster _ _ _ _ _ c.args.dc c.args.shard _ _ c.self.view_is (λ is. absurd (cc)) c.new.ensures
 
 pub returns-then-place-len : goal.returns-then-place-len
 returns-then-place-len c =
