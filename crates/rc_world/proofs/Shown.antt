@@ -1,9 +1,10 @@
 -- What shows a shard server.
-use Rattle.std.proofs.Common.{◌≡◌, ℕ, Bool, true, false, if◌then◌else◌, List, [], ◌++◌, Option, None, Some, refl, sym, ◌∙◌, ap}
+use Rattle.std.proofs.Common.{◌≡◌, ◌≤◌, ◌+◌, ◌-◌, zero, suc, arith, ◌∷◌, ℕ, Bool, true, false, if◌then◌else◌, List, [], ◌++◌, Option, None, Some, refl, sym, ◌∙◌, ap}
 use Rattle.std.specs.Prelude.{slice_get}
 use Rattle.std.specs.Option.{option_map}
-use Rattle.std.proofs.lemmas.List.{append-nil}
-use Rattle.rc_ids.specs.Tables.{maybe}
+use Rattle.std.specs.List.{flat_map}
+use Rattle.std.proofs.lemmas.List.{append-nil, flat_map_more}
+use Rattle.rc_ids.specs.Tables.{maybe, up_to}
 use Rattle.rc_ids.specs.declared.names.NodeId.TheVariants.{Shard as ShardServer}
 use Rattle.rc_report.specs.declared.line.Line.{Line}
 use Rattle.rc_protocol.specs.Nodes.{ShardNode, shard_index}
@@ -35,3 +36,12 @@ pub shown-some : (c : Layout) (sites : List ShardSite) (d s : ℕ) (host : Shard
 shown-some c sites d s host lines now is did =
     did ∙ ap (λ (ls : List Line). lines ++ ls)
     (sym (shown c sites d s ∙ ap (λ (o : Option ShardSite). maybe o [] (λ (h : ShardSite). row_lines (ShardServer d s) h.node)) is))
+
+-- one shard server more is shown
+pub shown_more : (f : ℕ → List Line) (n : ℕ) (before lines now : List Line) → 1 ≤ n → lines ≡ before ++ flat_map f (up_to (n - 1)) → now ≡ lines ++ f n
+    → now ≡ before ++ flat_map f (up_to (n + 1 - 1))
+shown_more f zero before lines now low so k = absurd (omega arith)
+shown_more f (suc n) before lines now low so k =
+    let last : suc n - 1 ≡ n = omega arith in
+    let next : suc n + 1 - 1 ≡ suc n = omega arith in
+    rw next (k ∙ ap (λ (ls : List Line). ls ++ f (suc n)) (so ∙ ap (λ (m : ℕ). before ++ flat_map f (up_to m)) last) ∙ flat_map_more f before (up_to n) (suc n))

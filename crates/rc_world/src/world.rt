@@ -332,11 +332,15 @@ fn happen_named(
     ensures lines { IfErr result (λ e. Stay (fault_of_limit e) lines.old lines.new) }
 {
     let mut own = Lines::new(alloc);
-    let sum = happen(alloc, parties, network, *events, *text, event, &mut own)?;
-    *text = sum;
-    *events += 1;
-    lines.append(own)?;
-    Ok(())
+    match happen(alloc, parties, network, *events, *text, event, &mut own) {
+        Ok(sum) => {
+            *text = sum;
+            *events += 1;
+            lines.append(own)?;
+            Ok(())
+        }
+        Err(fault) => Err(fault),
+    }
 }
 
 /// One event: what it prints is added to the lines, and the event and the bytes of its text are counted.

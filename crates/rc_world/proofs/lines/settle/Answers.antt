@@ -52,8 +52,8 @@ returns-in-Some-oldest-clause-ended c =
     let l = c.loop-count in
     let some : oldest l.session.world ≡ Some c.in-Some-oldest._number = (cc) in
     let none_left : 2000000 - l.count ≡ 0 = omega arith in
-    let target : bare (then_line l.lines (settles 0 l.count l.session)) ≡ bare (then_line l.initial.lines (settles 2000000 0 l.initial.session)) = ap (λ (f : ℕ). bare (then_line l.lines (settles f l.count l.session))) (sym none_left) ∙ l.invariant in
-    ends_so (Limit Events) l.lines (then_line l.lines (settles 0 l.count l.session)) _ target (
+    ends_so (Limit Events) l.lines (then_line l.lines (settles 0 l.count l.session)) (then_line c.args.lines.now (settles 2000000 0 c.args.session.now))
+    (ap (λ (f : ℕ). bare (then_line l.lines (settles f l.count l.session))) (sym none_left) ∙ l.invariant) (
       ap (λ (d : LineDone). l.lines ++ d.lines) (settles-end l.count l.session c.in-Some-oldest._number some) ∙ append-nil l.lines,
       ap (λ (d : LineDone). d.halt) (settles-end l.count l.session c.in-Some-oldest._number some),
     )
