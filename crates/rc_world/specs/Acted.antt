@@ -11,10 +11,10 @@ use Rattle.rc_body.specs.declared.entry.Entry.{Entry}
 use Rattle.rc_msg.specs.declared.msg.Envelope.{Envelope}
 use Rattle.rc_report.specs.declared.line.Line.{Line}
 use Rattle.rc_report.specs.declared.fault.Which.TheVariants.{Version, Ballots}
-use Rattle.rc_client.specs.declared.fault.ClientFault.{ClientFault}
-use Rattle.rc_client.specs.declared.fault.ClientFault.TheVariants.{NoMemory as ClientNoMemory, KeyWornOut}
-use Rattle.rc_coord.specs.declared.fault.CoordFault.{CoordFault}
-use Rattle.rc_coord.specs.declared.fault.CoordFault.TheVariants.{NoMemory as CoordNoMemory, BallotsSpent as CoordSpent}
+use Rattle.rc_plain_client.specs.declared.fault.ClientFault.{ClientFault}
+use Rattle.rc_plain_client.specs.declared.fault.ClientFault.TheVariants.{NoMemory as ClientNoMemory, KeyWornOut}
+use Rattle.rc_plain_coord.specs.declared.fault.CoordFault.{CoordFault}
+use Rattle.rc_plain_coord.specs.declared.fault.CoordFault.TheVariants.{NoMemory as CoordNoMemory, BallotsSpent as CoordSpent}
 use Rattle.rc_runs.specs.declared.event.Event.{Event}
 use Rattle.rc_runs.specs.declared.event.Event.TheVariants.{Read, Write, Commit, Cancel, Retry, Vanish, Deliver}
 use Rattle.rc_protocol.specs.Messages.{Sends}

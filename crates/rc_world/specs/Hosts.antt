@@ -7,8 +7,8 @@ use Rattle.rc_msg.specs.declared.msg.Envelope.{Envelope}
 use Rattle.rc_record.specs.declared.record.Record.{Record}
 use Rattle.rc_report.specs.declared.line.Line.{Line}
 use Rattle.rc_report.specs.declared.line.Line.TheVariants.{Stopped}
-use Rattle.rc_coord.specs.declared.fault.CoordFault.{CoordFault}
-use Rattle.rc_coord.specs.declared.fault.CoordFault.TheVariants.{NoMemory as CoordNoMemory, BallotsSpent}
+use Rattle.rc_plain_coord.specs.declared.fault.CoordFault.{CoordFault}
+use Rattle.rc_plain_coord.specs.declared.fault.CoordFault.TheVariants.{NoMemory as CoordNoMemory, BallotsSpent}
 use Rattle.rc_runs.specs.declared.event.Event.{Event}
 use Rattle.rc_runs.specs.declared.event.Event.TheVariants.{Take, Catch, Deliver}
 use Rattle.rc_protocol.specs.Messages.{Sends}

@@ -2,7 +2,7 @@
 ghost use Rattle.std.specs.Prelude.{◌≡◌, ◌++◌, [], Some, None, OnOk, IfOk, IfErr};
 ghost use Rattle.std.specs.Ordering.{nat_cmp};
 ghost use Rattle.rc_ids.specs.Tables.{found};
-ghost use Rattle.rc_client.specs.Acts.{Does};
+ghost use Rattle.rc_plain_client.specs.Acts.{Does};
 ghost use Rattle.rc_protocol.specs.Client.{Client as ClientState};
 ghost use Rattle.rc_runs.specs.World.{replaced};
 ghost use Rattle.rc_world.specs.Acted.{client_part as client_part_lem, May, Wears};
@@ -10,7 +10,7 @@ ghost use Rattle.rc_world.specs.declared.fault.ActFault.TheVariants.{NoMemory as
 
 use crate::fault::ActFault;
 use crate::network::message;
-use rc_client::Client;
+use rc_plain_client::Client;
 use rc_ids::{Cluster, TxId};
 use rc_msg::{Envelope, Messages};
 use rc_report::Lines;

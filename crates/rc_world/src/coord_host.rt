@@ -7,14 +7,14 @@ ghost use Rattle.rc_record.specs.CoordState.{new_durable};
 ghost use Rattle.rc_protocol.specs.Coordinator.{CoordAct, do_catch, new_volatile};
 ghost use Rattle.rc_protocol.specs.Nodes.{CoordNode, coord_after, coord_replayed, coord_started, coord_stopped};
 ghost use Rattle.rc_runs.specs.Devices.{powered, armed, opened_once};
-ghost use Rattle.rc_coord.specs.Rows.{Handled};
+ghost use Rattle.rc_plain_coord.specs.Rows.{Handled};
 ghost use Rattle.rc_world.specs.Disks.{protocol_course};
 ghost use Rattle.rc_world.specs.Hosts.{CoordSite, coord_part as coord_part_lem, CoordWent, Lacks};
 
 use crate::disk::{Course, Disk};
 use crate::lengths::record_len;
 use crate::network::message;
-use rc_coord::{Coord, CoordFault};
+use rc_plain_coord::{Coord, CoordFault};
 use rc_ids::{Ballot, Cluster, DcId, NoMemory, Outcome, TxId};
 use rc_msg::{Envelope, Messages};
 use rc_record::Record;

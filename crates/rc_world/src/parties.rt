@@ -29,7 +29,7 @@ use crate::shard_host::ShardHost;
 use crate::shards::{shard_acts, shard_arms, shard_starts, shard_stops};
 use crate::starts::{new_coords, new_shards};
 use rc_body::Body;
-use rc_client::{Client, Phase};
+use rc_plain_client::{Client, Phase};
 use rc_ids::{Cluster, DcId, Key, NoMemory, NodeId, Party, ShardId, TxId};
 use rc_msg::{Envelope, Messages};
 use rc_report::{Lines, Wrong};

@@ -16,7 +16,7 @@ use rc_ids::{Cluster, DcId, NoMemory, ShardId};
 use rc_msg::{Envelope, Messages};
 use rc_report::Lines;
 use rc_runs::Event;
-use rc_shard::Shard;
+use rc_plain_shard::Shard;
 use std::alloc::Global;
 use std::marker::Model;
 

@@ -1,5 +1,0 @@
-use Rattle.std.proofs.Common.{length}
-use Rattle.rc_client.proofs.grant.+best.Given as goal
-
-abbrev pub decreases-best : goal.decreases-best
-decreases-best l = length l.grants.now

@@ -1,5 +1,0 @@
-use Rattle.std.proofs.Common.{length}
-use Rattle.rc_client.proofs.grant.+givers.Given as goal
-
-abbrev pub decreases-givers : goal.decreases-givers
-decreases-givers l = length l.grants.now

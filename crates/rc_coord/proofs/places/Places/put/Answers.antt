@@ -1,5 +1,0 @@
-use Rattle.std.proofs.Common.{refl}
-use Rattle.rc_coord.proofs.places.Places.put.Goals as goal
-
-pub returns : goal.returns
-returns c = rw (c.in_ok-insert.ensures.entries, c.self.view_is) refl

@@ -1,0 +1,183 @@
+// A key that a transaction touched.
+ghost use Rattle.std.specs.Prelude.{◌≡◌, ◌++◌, [], IfOk, OnOk, None, Some, true};
+ghost use Rattle.std.specs.Option.{option_copied};
+ghost use Rattle.rc_protocol.specs.Client.{is_under_way as is_under_way_lem, is_unread as is_unread_lem, wants_grant as wants_grant_lem, granted_by as granted_by_lem, grants_of, prints_of, with_grant, with_read, with_write, read_begun, entry_of, NotRead as IsUnread, UnderWay as IsUnderWay, Complete as IsComplete};
+ghost use Rattle.rc_body.specs.Entries.{wears_out};
+ghost use Rattle.rc_plain_client.specs.Reads.{read_of};
+
+use crate::grant::{Grant, Grants, copied_value};
+use crate::read::KeyRead;
+use rc_body::Entry;
+use rc_ids::{DcId, DcSet, Key, NoMemory, Val, Version};
+use std::alloc::Global;
+use std::marker::Model;
+
+/// A key that the transaction touched, with its buffered write and its read.
+#[derive(Drop)]
+pub struct Slot {
+    key: Key,
+    write: Option<Val>,
+    read: KeyRead,
+}
+
+impl Model for Slot {
+    ghost use Rattle.rc_protocol.specs.Client.{Slot as SlotState};
+    ghost use Rattle.rc_plain_client.specs.Reads.{read_of};
+
+    ghost Value = { SlotState };
+
+    ghost view = { λ s. record { key = s.key; write = s.write; read = read_of s.read } };
+}
+
+impl Slot {
+    /// A key that is asked for first, by a read that prints a line at its end.
+    pub fn asked(alloc: Global, key: &Key) -> Slot
+        ensures { result ≡ record { key = key.now; write = None; read = IsUnderWay true [] } }
+    {
+        Slot {
+            key: key.copy(),
+            write: None,
+            read: KeyRead::UnderWay(true, Grants::new(alloc)),
+        }
+    }
+
+    /// A key that is written first.
+    pub fn written(key: &Key, value: &Val) -> Result<Slot, NoMemory>
+        ensures { IfOk result (λ s. s ≡ record { key = key.now; write = Some value.now; read = IsUnread }) }
+    {
+        Ok(Slot {
+            key: key.copy(),
+            write: Some(value.copy()?),
+            read: KeyRead::NotRead,
+        })
+    }
+
+    /// The key.
+    pub fn key(&self) -> &Key
+        ensures { result.now ≡ self.now.key }
+    {
+        &self.key
+    }
+
+    /// The buffered write, if there is one.
+    pub fn write(&self) -> Option<&Val>
+        ensures { option_copied result ≡ self.now.write }
+    {
+        self.write.as_ref()
+    }
+
+    /// How far the read is.
+    pub fn read(&self) -> &KeyRead
+        ensures { read_of result.now ≡ self.now.read }
+    {
+        &self.read
+    }
+
+    /// Whether the key was not read.
+    pub fn is_unread(&self) -> bool
+        ensures { result ≡ is_unread_lem self.now.read }
+    {
+        matches!(self.read, KeyRead::NotRead)
+    }
+
+    /// Whether the read is under way.
+    pub fn is_under_way(&self) -> bool
+        ensures { result ≡ is_under_way_lem self.now.read }
+    {
+        matches!(self.read, KeyRead::UnderWay(_, _))
+    }
+
+    /// Whether a line is printed at the end of the read that is under way.
+    pub fn prints(&self) -> bool
+        ensures { result ≡ prints_of self.now.read }
+    {
+        match self.read {
+            KeyRead::UnderWay(prints, _) => prints,
+            _ => false,
+        }
+    }
+
+    /// Whether the read is under way, and this datacentre has not granted it.
+    pub fn wants_grant(&self, dc: DcId) -> bool
+        ensures { result ≡ wants_grant_lem self.now dc }
+    {
+        match &self.read {
+            KeyRead::UnderWay(_, grants) => !grants.granted_by().has(dc),
+            _ => false,
+        }
+    }
+
+    /// The datacentres that granted the read that is under way.
+    pub fn granted_by(&self) -> DcSet
+        ensures { result ≡ granted_by_lem (grants_of self.now.read) }
+    {
+        match &self.read {
+            KeyRead::UnderWay(_, grants) => grants.granted_by(),
+            _ => DcSet::new(),
+        }
+    }
+
+    /// The grants of the read that is under way, and one more.
+    pub fn with_grant(&self, grant: Grant) -> Result<Grants, NoMemory>
+        requires { is_under_way_lem self.now.read ≡ true }
+        ensures { IfOk result (λ grants. grants ≡ with_grant self.now grant) }
+    {
+        match &self.read {
+            KeyRead::UnderWay(_, grants) => grants.with(grant),
+            _ => unreachable!(),
+        }
+    }
+
+    /// Keeps how far the read is.
+    pub fn set_read(&mut self, read: KeyRead)
+        ensures { self.new ≡ with_read self.old (read_of read) }
+    {
+        self.read = read;
+    }
+
+    /// Buffers a write.
+    pub fn set_write(&mut self, value: &Val) -> Result<(), NoMemory>
+        ensures ok { OnOk result (self.new ≡ with_write self.old value.now) }
+        ensures key { self.new.key ≡ self.old.key }
+    {
+        self.write = Some(value.copy()?);
+        Ok(())
+    }
+
+    /// Begins the read, without a line at its end, where the key was not read.
+    pub fn begin_read(&mut self, alloc: Global)
+        ensures { self.new ≡ read_begun self.old }
+    {
+        if self.is_unread() {
+            self.read = KeyRead::UnderWay(false, Grants::new(alloc));
+        }
+    }
+
+    /// The version that was read; 0 where no read is complete.
+    fn version(&self) -> Version
+        ensures { result ≡ (entry_of self.now).version }
+    {
+        match &self.read {
+            KeyRead::Complete(version, _) => *version,
+            _ => Version(0),
+        }
+    }
+
+    /// What the transaction does with the key.
+    pub fn entry(&self) -> Result<Entry, NoMemory>
+        ensures { IfOk result (λ e. e ≡ entry_of self.now) }
+    {
+        Ok(Entry {
+            key: self.key.copy(),
+            version: self.version(),
+            write: copied_value(&self.write)?,
+        })
+    }
+
+    /// Whether the key is written, and no version comes after the one that was read.
+    pub fn wears_out(&self) -> bool
+        ensures { result ≡ wears_out (entry_of self.now) }
+    {
+        self.write.is_some() && self.version().0 == (1 << 62) - 1
+    }
+}

@@ -1,0 +1,5 @@
+use Rattle.std.proofs.Common.{refl}
+use Rattle.rc_plain_coord.proofs.gather.Gathers.put.Goals as goal
+
+pub returns : goal.returns
+returns c = rw (c.in_ok-insert.ensures.entries, c.self.view_is) refl
