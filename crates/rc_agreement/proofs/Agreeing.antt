@@ -15,7 +15,7 @@ use Rattle.rc_msg.specs.declared.msg.Envelope.{Envelope}
 use Rattle.rc_record.specs.declared.record.Record.{Record}
 use Rattle.rc_record.specs.declared.record.Record.TheVariants.{Accepted}
 use Rattle.rc_record.specs.CoordState.{CoordDurable, coord_applied}
-use Rattle.rc_protocol.specs.Messages.{Sends, client_of, shard_server}
+use Rattle.rc_protocol.specs.Messages.{Posts, client_of, shard_server}
 use Rattle.rc_protocol.specs.Coordinator.{CoordAct, new_volatile as new_coord_volatile}
 use Rattle.rc_protocol.specs.Client.{Client, ClientAct, new_client, body_of}
 use Rattle.rc_protocol.specs.Nodes.{CoordNode, ShardNode, coord_index, coord_started, shard_after, shard_stopped, shard_started, applied, logged}
@@ -42,7 +42,7 @@ pub not_begun : (w : Parties) (t : ℕ) → is_begun w t ≡ false → found nat
 not_begun w t e = or_none (member nat_cmp w.start.named t) (found nat_cmp w.clients t) e
 
 -- MORE MESSAGES that are no promises, and whose proposals are at ballot 0; the coordinators are as before
-module _ (c : Layout) (tx : ℕ) (s : Scene) (i : Agreeing c tx s) (shs : List ShardNode) (cs : Table ℕ Client) (from : Party) (ms : Sends)
+module _ (c : Layout) (tx : ℕ) (s : Scene) (i : Agreeing c tx s) (shs : List ShardNode) (cs : Table ℕ Client) (from : Party) (ms : Posts)
     (no_promise : (b e : ℕ) (r : Reported) → Says ms (Promise tx b e r) → ⊥)
     (zero_only : (b : ℕ) (o : Decision) → Says ms (Propose tx b o) → b ≡ 0) where
   abbrev z : Scene
@@ -101,7 +101,7 @@ module _ (c : Layout) (tx : ℕ) (s : Scene) (i : Agreeing c tx s) (shs : List S
       }
 
 -- SHARD SERVERS
-keeps_shard : (c : Layout) (tx : ℕ) (s : Scene) → Agreeing c tx s → (shs : List ShardNode) (from : Party) (ms : Sends) → Each Plain ms → Agreeing c tx (record { parties = record s.parties { shards = shs }; sent = s.sent ++ envelopes from ms })
+keeps_shard : (c : Layout) (tx : ℕ) (s : Scene) → Agreeing c tx s → (shs : List ShardNode) (from : Party) (ms : Posts) → Each Plain ms → Agreeing c tx (record { parties = record s.parties { shards = shs }; sent = s.sent ++ envelopes from ms })
 keeps_shard c tx s i shs from ms q =
     keeps_more c tx s i shs s.parties.clients from ms
     (λ b e r h. q.each (Promise tx b e r) h)

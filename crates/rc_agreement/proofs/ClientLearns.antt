@@ -9,9 +9,9 @@ use Rattle.rc_body.specs.declared.reason.Reason.{Reason}
 use Rattle.rc_msg.specs.declared.msg.Msg.{Msg}
 use Rattle.rc_msg.specs.declared.msg.Msg.TheVariants.{Granted, Voted, Refused, Decided}
 use Rattle.rc_report.specs.declared.line.Line.{Line}
-use Rattle.rc_protocol.specs.Messages.{Sends, client_of}
+use Rattle.rc_protocol.specs.Messages.{Posts, client_of}
 use Rattle.rc_protocol.specs.Coordinator.{is_decided_by}
-use Rattle.rc_protocol.specs.Client.{Client, ClientAct, Slot, KeyRead, Complete, Grant, is_over, is_committing, is_proposed, reads_on, client_stays, with_slots, is_worn, proposes, slot_of, slot_set, reads_again, do_read, is_under_way, waits_for_read, reads_begun, do_commit, do_cancel, do_retry, granted_by, cancels, completed, read_line, after_read, unless_refused, with_grant, takes_grant, wants_grant, on_granted, with_vote, on_voted, learns, counts_refusal, on_refused, client_row}
+use Rattle.rc_protocol.specs.Client.{Client, ClientAct, Slot, KeyRead, Complete, Grant, is_over, is_committing, is_proposed, reads_on, client_stays, with_slots, is_worn, proposes, slot_of, slot_set, reads_again, do_read, is_under_way, waits_for_read, reads_begun, do_commit, do_cancel, do_retry, granted_by, cancels, completed, read_line, after_read, unless_refused, with_grant, takes_grant, wants_grant, on_granted, with_vote, on_voted, client_learns, counts_refusal, on_refused, client_row}
 use Rattle.rc_agreement.proofs.Cases.{on_cond, on_maybe, some_is}
 use Rattle.rc_protocol.specs.Acts.{ClientCause, Hears, Reads, Writes, Commits, Cancels, Retries, Vanishes, client_by_row}
 use Rattle.rc_agreement.proofs.Scenes.{Scene, DueFor}
@@ -38,7 +38,7 @@ module _ (c : Layout) (t : ℕ) (x : Client) where
   still : Alike x (client_stays x)
   still = record { votes = refl; outcome = refl }
 
-  proposes_alike : (y : Client) (ms : Sends) (ls : List Line) → y.votes ≡ x.votes → y.outcome ≡ x.outcome → Alike x (unless_refused x (after_read ms ls (proposes c t y)))
+  proposes_alike : (y : Client) (ms : Posts) (ls : List Line) → y.votes ≡ x.votes → y.outcome ≡ x.outcome → Alike x (unless_refused x (after_read ms ls (proposes c t y)))
   proposes_alike y ms ls v o = on_cond (λ a. Alike x (unless_refused x (after_read ms ls a))) (is_worn y.slots) _ _ (λ _. record { votes = refl; outcome = refl }) (λ _. record { votes = v; outcome = o })
 
   takes_alike : (s : Slot) (g : Grant) → Alike x (takes_grant c t x s g)
@@ -92,7 +92,7 @@ module _ (c : Layout) (s : Scene) (t : ℕ) (inv : Agreeing c t s) (x : Client) 
   counts_vote : (b d : ℕ) (o : Decision) → Vote t s d b o → Learner s t (with_vote x b d o)
   counts_vote b d o v = record { tally = tallied_more s t x.votes h.tally b d o v; outcome = h.outcome }
 
-  learns_it : (y : Client) (o : Decision) → Learner s t y → Learns s t o → L (learns t y o)
+  learns_it : (y : Client) (o : Decision) → Learner s t y → Learns s t o → L (client_learns t y o)
   learns_it y o k l = record { tally = k.tally; outcome = λ p is. subst (Learns s t) (some_is o p is) l }
 
   voted_learns : (b d : ℕ) (o : Decision) → Vote t s d b o → L (on_voted cl t x b d o)

@@ -10,9 +10,9 @@ use Rattle.rc_msg.specs.declared.msg.Msg.{Msg}
 use Rattle.rc_msg.specs.declared.msg.Msg.TheVariants.{Granted, Voted, Refused, Decided}
 use Rattle.rc_report.specs.declared.line.Line.{Line}
 use Rattle.rc_report.specs.declared.line.Line.TheVariants.{Read as ReadLine, Own, Refused as RefusedLine, Learned}
-use Rattle.rc_protocol.specs.Messages.{Sends}
+use Rattle.rc_protocol.specs.Messages.{Posts}
 use Rattle.rc_protocol.specs.Coordinator.{is_decided_by}
-use Rattle.rc_protocol.specs.Client.{Client, ClientAct, Slot, KeyRead, Complete, Grant, is_over, is_committing, is_proposed, reads_on, client_stays, with_slots, is_worn, proposes, slot_of, slot_set, reads_again, do_read, is_under_way, waits_for_read, reads_begun, do_commit, best_grant, granted_by, cancels, completed, read_line, after_read, unless_refused, with_grant, prints_of, takes_grant, wants_grant, on_granted, with_vote, learns, counts_refusal, client_row}
+use Rattle.rc_protocol.specs.Client.{Client, ClientAct, Slot, KeyRead, Complete, Grant, is_over, is_committing, is_proposed, reads_on, client_stays, with_slots, is_worn, proposes, slot_of, slot_set, reads_again, do_read, is_under_way, waits_for_read, reads_begun, do_commit, best_grant, granted_by, cancels, completed, read_line, after_read, unless_refused, with_grant, prints_of, takes_grant, wants_grant, on_granted, with_vote, client_learns, counts_refusal, client_row}
 use Rattle.rc_agreement.proofs.Cases.{on_cond, on_maybe}
 use Rattle.rc_protocol.specs.Acts.{ClientCause, Hears, Reads, Writes, Commits, Cancels, Retries, Vanishes, client_by_row, client_act, refusal}
 
@@ -37,7 +37,7 @@ module _ (c : Layout) (t : ℕ) (x : Client) where
   still : P (client_stays x)
   still = nothing t x
 
-  proposes_prints : (y : Client) (ms : Sends) (ls : List Line) → ((z : Client) → Announces t z ls) → P (unless_refused x (after_read ms ls (proposes c t y)))
+  proposes_prints : (y : Client) (ms : Posts) (ls : List Line) → ((z : Client) → Announces t z ls) → P (unless_refused x (after_read ms ls (proposes c t y)))
   proposes_prints y ms ls h = on_cond (λ a. P (unless_refused x (after_read ms ls a))) (is_worn y.slots) _ _ (λ _. nothing t x) (λ _. h _)
 
   read_prints : (s : Slot) (gs : List Grant) (z : Client) → Announces t z (read_line t s gs)
@@ -72,7 +72,7 @@ module _ (c : Layout) (t : ℕ) (x : Client) where
       on_cond P (waits_for_read (reads_begun x.slots)) _ _ (λ _. nothing t _)
       (λ _. on_cond P (is_worn x.slots) _ _ (λ _. nothing t _) (λ _. nothing t _))
 
-  learns_prints : (y : Client) (o : Decision) → P (learns t y o)
+  learns_prints : (y : Client) (o : Decision) → P (client_learns t y o)
   learns_prints y o =
       record {
         each = λ u outcome i. ⊎_elim

@@ -10,9 +10,9 @@ use Rattle.rc_body.specs.declared.reason.Reason.{Reason}
 use Rattle.rc_msg.specs.declared.msg.Msg.{Msg}
 use Rattle.rc_msg.specs.declared.msg.Msg.TheVariants.{ReadAsk, ReadCancel, Granted, Propose, Voted, Refused, Promise, Decided, Abandon}
 use Rattle.rc_report.specs.declared.line.Line.{Line}
-use Rattle.rc_protocol.specs.Messages.{Sends, coordinator, shard_server, to_all}
+use Rattle.rc_protocol.specs.Messages.{Posts, coordinator, shard_server, to_all}
 use Rattle.rc_protocol.specs.Coordinator.{is_decided_by}
-use Rattle.rc_protocol.specs.Client.{Client, ClientAct, Phase, Open, Committing, Proposed, Done, Vanished, Slot, KeyRead, UnderWay, Complete, Grant, is_open, is_over, is_committing, is_proposed, reads_on, client_stays, client_says, in_phase, with_slots, is_worn, proposes, body_of, slot_of, slot_set, asks, asks_new, reads_again, do_read, do_write, is_under_way, waits_for_read, reads_begun, unread_keys, asks_all, do_commit, drops_read, do_cancel, asks_rest, asks_again, waiting_keys, do_retry, do_vanish, grants_of, granted_by, cancel_to, cancels, completed, read_line, goes_on, after_read, unless_refused, with_grant, with_read, prints_of, takes_grant, wants_grant, on_granted, with_vote, on_voted, learns, counts_refusal, on_refused, client_row, ClientRefusal, KeyWornOut}
+use Rattle.rc_protocol.specs.Client.{Client, ClientAct, Phase, Open, Committing, Proposed, Done, Vanished, Slot, KeyRead, UnderWay, Complete, Grant, is_open, is_over, is_committing, is_proposed, reads_on, client_stays, client_says, in_phase, with_slots, is_worn, proposes, body_of, slot_of, slot_set, asks, asks_new, reads_again, do_read, do_write, is_under_way, waits_for_read, reads_begun, unread_keys, asks_all, do_commit, drops_read, do_cancel, asks_rest, asks_again, waiting_keys, do_retry, do_vanish, grants_of, granted_by, cancel_to, cancels, completed, read_line, proposes_once_read, after_read, unless_refused, with_grant, with_read, prints_of, takes_grant, wants_grant, on_granted, with_vote, on_voted, client_learns, counts_refusal, on_refused, client_row, ClientRefusal, KeyWornOut}
 use Rattle.rc_agreement.proofs.Cases.{on_cond, on_maybe}
 use Rattle.rc_protocol.specs.Acts.{ClientCause, Hears, Reads, Writes, Commits, Cancels, Retries, Vanishes, client_by_row}
 use Rattle.rc_agreement.proofs.Said.{Says, Each, each_none, each_one, each_both, each_to, each_all, each_weaker, Modest, Mute, modest_mute}
@@ -59,7 +59,7 @@ module _ (c : Layout) (t : ℕ) (x : Client) where
   abbrev Stays : ClientAct → Type 0
   Stays a = Late x.phase → Late a.after.phase × (a.after.phase ≡ Proposed → (x.phase ≡ Proposed) × (a.after.slots ≡ x.slots))
 
-  offers : (y : Client) (ms : Sends) → Each Modest ms → Each (Offer t y) ms
+  offers : (y : Client) (ms : Posts) → Each Modest ms → Each (Offer t y) ms
   offers y ms q = each_weaker Modest (Offer t y) ms (modest_offer t y) q
 
   tame : (a : ClientAct) → Each Modest a.sends → Stays a → Tame t x a
@@ -68,7 +68,7 @@ module _ (c : Layout) (t : ℕ) (x : Client) where
   same_stays : Late x.phase → Late x.phase × (x.phase ≡ Proposed → (x.phase ≡ Proposed) × (x.slots ≡ x.slots))
   same_stays l = (l, λ p. (p, refl))
 
-  calm : (ms : Sends) (ls : List Line) (refused : Option ClientRefusal) → Each Modest ms → Tame t x (record { after = x; sends = ms; lines = ls; refused = refused })
+  calm : (ms : Posts) (ls : List Line) (refused : Option ClientRefusal) → Each Modest ms → Tame t x (record { after = x; sends = ms; lines = ls; refused = refused })
   calm ms ls refused q = tame (record { after = x; sends = ms; lines = ls; refused = refused }) q same_stays
 
   still : Tame t x (client_stays x)
@@ -89,7 +89,7 @@ module _ (c : Layout) (t : ℕ) (x : Client) where
   own_offer y is = each_all (Offer t y) c (Propose t 0 (Commit (body_of y.slots))) (refl, refl, refl, is)
 
   -- it proposes what it has now, with these messages before, or stays as it was
-  proposes_tame : (y : Client) (ms : Sends) (ls : List Line) → Each Modest ms → reads_on x.phase ≡ true → Tame t x (unless_refused x (after_read ms ls (proposes c t y)))
+  proposes_tame : (y : Client) (ms : Posts) (ls : List Line) → Each Modest ms → reads_on x.phase ≡ true → Tame t x (unless_refused x (after_read ms ls (proposes c t y)))
   proposes_tame y ms ls q e =
       on_cond (λ a. Tame t x (unless_refused x (after_read ms ls a))) (is_worn y.slots) _ _
       (λ _. calm [] [] (Some KeyWornOut) (each_none Modest))
@@ -141,7 +141,7 @@ module _ (c : Layout) (t : ℕ) (x : Client) where
       (λ _. record { says = own_offer x (proposed_is x.phase is); late = same_stays }))
       (λ _. on_cond (Tame t x) (reads_on x.phase) _ _ (λ _. calm _ [] None (again_modest (waiting_keys x.slots))) (λ _. still))
 
-  goes_on_tame : (y : Client) (ms : Sends) (ls : List Line) → Each Modest ms → reads_on x.phase ≡ true → Tame t x (unless_refused x (after_read ms ls (goes_on c t y)))
+  goes_on_tame : (y : Client) (ms : Posts) (ls : List Line) → Each Modest ms → reads_on x.phase ≡ true → Tame t x (unless_refused x (after_read ms ls (proposes_once_read c t y)))
   goes_on_tame y ms ls q e =
       on_cond (λ a. Tame t x (unless_refused x (after_read ms ls a))) (is_committing y.phase && not (waits_for_read y.slots)) (proposes c t y) (client_stays y)
       (λ _. proposes_tame y ms ls q e)
@@ -164,8 +164,8 @@ module _ (c : Layout) (t : ℕ) (x : Client) where
           (λ _. goes_on_tame (with_slots x (slot_set x.slots (completed s gs))) (cancels c t s.key gs) (read_line t s gs) (cancels_modest s gs) e)
           (λ _. soon e (client_stays (with_slots x (slot_set x.slots (with_read s (UnderWay (prints_of s.read) gs))))) (each_none Modest))
 
-  ended : (y : Client) (o : Decision) → Tame t x (learns t y o)
-  ended y o = tame (learns t y o) (each_none Modest) (λ l. (tt, λ p. absurd (not_done p)))
+  ended : (y : Client) (o : Decision) → Tame t x (client_learns t y o)
+  ended y o = tame (client_learns t y o) (each_none Modest) (λ l. (tt, λ p. absurd (not_done p)))
     where
       not_done : Done ≡ Proposed → ⊥
       not_done p = cc

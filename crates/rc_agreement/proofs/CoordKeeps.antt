@@ -15,7 +15,7 @@ use Rattle.rc_msg.specs.declared.msg.Msg.TheVariants.{Propose, Promise}
 use Rattle.rc_record.specs.declared.record.Record.TheVariants.{Promised, Accepted}
 use Rattle.rc_record.specs.CoordState.{CoordDurable, promise_of, coord_applied}
 use Rattle.rc_protocol.specs.Messages.{coordinator}
-use Rattle.rc_protocol.specs.Coordinator.{CoordAct, TakeOver, chooses, chooses_eagerly, chooses_patiently, best_or_abort, proposed}
+use Rattle.rc_protocol.specs.Coordinator.{CoordAct, TakeoverState, chooses, chooses_eagerly, chooses_patiently, best_or_abort, proposed}
 use Rattle.rc_protocol.specs.Nodes.{CoordNode, applied, logged}
 use Rattle.rc_runs.specs.World.{envelopes, with_coord}
 use Rattle.rc_agreement.proofs.Cases.{on_cond, some_is, never, nat_dec}
@@ -99,7 +99,7 @@ module _ (c : Layout) (lay : IsLayout c) (tx : ℕ) (s : Scene) (i : Agreeing c 
         real = λ k q is. let x = h.real k q is in (vote_old e k q x.0, x.1);
       }
 
-  opens : (e : ℕ) (k : TakeOver) → ((o : Decision) → k.has_proposed ≡ false → Proposal tx z k.ballot o → ⊥) → Opens tx s e k → Opens tx z e k
+  opens : (e : ℕ) (k : TakeoverState) → ((o : Decision) → k.has_proposed ≡ false → Proposal tx z k.ballot o → ⊥) → Opens tx s e k → Opens tx z e k
   opens e k new h =
       record {
         above0 = h.above0;
@@ -126,10 +126,10 @@ module _ (c : Layout) (lay : IsLayout c) (tx : ℕ) (s : Scene) (i : Agreeing c 
       }
 
   -- the act proposes at this ballot, and its take-over has proposed
-  has_spoken : (k : TakeOver) (o : Decision) → found nat_cmp a.after.takeovers tx ≡ Some k → Proposing tx s d a k.ballot o → k.has_proposed ≡ true
-  has_spoken k o is p = let e : proposed p.k ≡ k = some_is (proposed p.k) k (sym p.after ∙ is) in ap (λ (z : TakeOver). z.has_proposed) (sym e)
+  has_spoken : (k : TakeoverState) (o : Decision) → found nat_cmp a.after.takeovers tx ≡ Some k → Proposing tx s d a k.ballot o → k.has_proposed ≡ true
+  has_spoken k o is p = let e : proposed p.k ≡ k = some_is (proposed p.k) k (sym p.after ∙ is) in ap (λ (z : TakeoverState). z.has_proposed) (sym e)
 
-  take_after : (k : TakeOver) → found nat_cmp a.after.takeovers tx ≡ Some k → Opens tx z d k
+  take_after : (k : TakeoverState) → found nat_cmp a.after.takeovers tx ≡ Some k → Opens tx z d k
   take_after k is =
       ⊎_elim
       (λ (o : Opens tx s d k). opens d k
@@ -178,7 +178,7 @@ module _ (c : Layout) (lay : IsLayout c) (tx : ℕ) (s : Scene) (i : Agreeing c 
   told b e r none h = let x = i.reports b e r h in (x.0, ⊎_elim (λ (z : (o : Decision) × Proposal tx s b o). absurd (none z.0 z.1)) (λ w. w) x.1)
 
   -- the best report is a vote
-  best_vote : (k : TakeOver) → k.has_proposed ≡ false → Opens tx s d k → (b : ℕ) (q : Decision) → k.best ≡ Some (b, q) → (b < k.ballot) × Proposal tx s b q
+  best_vote : (k : TakeoverState) → k.has_proposed ≡ false → Opens tx s d k → (b : ℕ) (q : Decision) → k.best ≡ Some (b, q) → (b < k.ballot) × Proposal tx s b q
   best_vote k quiet o b q is =
       let h = o.best b q is in
       let x = told k.ballot h.0 (Some (b, q)) (o.fresh quiet) h.1 in
@@ -186,7 +186,7 @@ module _ (c : Layout) (lay : IsLayout c) (tx : ℕ) (s : Scene) (i : Agreeing c 
       (v.1, (i.coords h.0).voted b q v.0)
 
   -- what it proposes: the best report, which a is_quorum was heard for, or abort, as a is_quorum had nothing to report
-  choice : (k : TakeOver) (o : Decision) → QuorumLaws s.parties.layout → chooses s.parties.layout k ≡ Some o
+  choice : (k : TakeoverState) (o : Decision) → QuorumLaws s.parties.layout → chooses s.parties.layout k ≡ Some o
       → ((is_quorum s.parties.layout k.heard ≡ true) × (o ≡ best_or_abort k.best)) ⊎ ((is_quorum s.parties.layout k.silent ≡ true) × (o ≡ Abort))
   choice k o Q =
       on_cond P k.is_eager (chooses_eagerly s.parties.layout k) (chooses_patiently s.parties.layout k)

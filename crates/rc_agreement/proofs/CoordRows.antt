@@ -18,8 +18,8 @@ use Rattle.rc_msg.specs.declared.msg.Msg.TheVariants.{Propose, Prepare, Prepared
 use Rattle.rc_record.specs.declared.record.Record.{Record}
 use Rattle.rc_record.specs.declared.record.Record.TheVariants.{Promised, Accepted}
 use Rattle.rc_record.specs.CoordState.{CoordDurable, promise_of, outcome_of, coord_applied}
-use Rattle.rc_protocol.specs.Messages.{Sends, coordinator, shard_server, client_of, one, to_each, to_all, most_entries}
-use Rattle.rc_protocol.specs.Coordinator.{CoordVolatile, CoordAct, Gather, TakeOver, coord_stays, coord_says, proposer, vote, accepts, finish_to, finishes, forgotten, learns, opening, opens, takes_over, has_all, with_gather, prepare_to, gathers_on, gather_at, takes_proposal, refuses, accepted_at, on_propose, waiting_gather, said_yes, with_yes, on_prepared, promise_record, promises_at, on_ask, better, hears, chooses, waiting_takeover, with_takeover, proposed, goes_on, on_promise, is_decided_by, tally_of, with_vote, on_voted, on_decided, page_from, place_of, is_next_page, with_place, undecided, forgotten_all, finishes_all, outcomes_record, asks_next, takes_page, on_catch_page, do_catch, coord_row}
+use Rattle.rc_protocol.specs.Messages.{Posts, coordinator, shard_server, client_of, one, to_each, to_all, most_entries}
+use Rattle.rc_protocol.specs.Coordinator.{CoordVolatile, CoordAct, GatherState, TakeoverState, coord_stays, coord_says, proposer, vote, accepts, finish_to, finish_posts, forgotten, coord_learns, opening, opens, takes_over, has_all, with_gather, prepare_to, gathers_on, gather_at, takes_proposal, refuses, accepted_at, on_propose, waiting_gather, said_yes, with_yes, on_prepared, promise_record, promises_at, on_ask, better, hears, chooses, waiting_takeover, with_takeover, proposed, proposes_or_waits, on_promise, is_decided_by, tally_of, with_vote, on_voted, on_decided, page_from, cursor_of, is_next_coord_page, with_coord_cursor, undecided, forgotten_all, finish_all_posts, outcomes_record, asks_next_coord_page, takes_page, on_catch_page, do_catch, coord_row}
 use Rattle.rc_protocol.specs.Nodes.{applied}
 use Rattle.rc_agreement.proofs.Cases.{on_cond, on_maybe, some_is, never, and_left, and_right, not_true}
 use Rattle.rc_agreement.proofs.Tables.{put_same, put_cases, found_in, in_put, in_without, in_added, RisesFrom, rises_put, rises_without, found_without}
@@ -45,10 +45,10 @@ Offers s d a _ = Unit {0}
 
 -- the gathers and the take-overs of an act, whatever their transaction
 abbrev Gathers : Scene → CoordVolatile → Type 0
-Gathers s v = (u : ℕ) (g : Gather) → In (u, g) v.gathers → Proposal u s g.ballot (Commit g.body)
+Gathers s v = (u : ℕ) (g : GatherState) → In (u, g) v.gathers → Proposal u s g.ballot (Commit g.body)
 
 abbrev TakesOf : Scene → ℕ → CoordAct → Type 0
-TakesOf s d a = (u : ℕ) (k : TakeOver) → found nat_cmp a.after.takeovers u ≡ Some k → Opens u s d k ⊎ Opened u s d a k
+TakesOf s d a = (u : ℕ) (k : TakeoverState) → found nat_cmp a.after.takeovers u ≡ Some k → Opens u s d k ⊎ Opened u s d a k
 
 -- good to every transaction
 pub record Fair (s : Scene) (d : ℕ) (a : CoordAct) : Type 0 where
@@ -91,7 +91,7 @@ module _ (c : Layout) (s : Scene) (inv : (u : ℕ) → Agreeing c u s) (d : ℕ)
   -- the take-overs of v are among those of d
   record Fewer (v : CoordVolatile) : Type 0 where
     rises : RisesFrom 0 v.takeovers
-    each : (u : ℕ) (k : TakeOver) → found nat_cmp v.takeovers u ≡ Some k → found nat_cmp vol.takeovers u ≡ Some k
+    each : (u : ℕ) (k : TakeoverState) → found nat_cmp v.takeovers u ≡ Some k → found nat_cmp vol.takeovers u ≡ Some k
 
   all_takes : Fewer vol
   all_takes = record { rises = ((inv 0).coords d).rises; each = λ u k is. is }
@@ -111,7 +111,7 @@ module _ (c : Layout) (s : Scene) (inv : (u : ℕ) → Agreeing c u s) (d : ℕ)
       }
 
   -- nothing changes and what is said is dull
-  quiet : (ms : Sends) → Each Plain ms → Fair s d (coord_says vol ms)
+  quiet : (ms : Posts) → Each Plain ms → Fair s d (coord_says vol ms)
   quiet ms q = dull (coord_says vol ms) q tt known all_takes
 
   idle : Fair s d (coord_stays vol)
@@ -123,7 +123,7 @@ module _ (c : Layout) (s : Scene) (inv : (u : ℕ) → Agreeing c u s) (d : ℕ)
   plain_vote : (u b : ℕ) (o : Decision) → Each Plain (vote cl d u b o)
   plain_vote u b o = each_both Plain _ _ (each_all Plain cl (Voted u b d o) tt) (each_one Plain (client_of u) (Voted u b d o) tt)
 
-  plain_finish : (u : ℕ) (o : Decision) → Each Plain (finishes cl d u o)
+  plain_finish : (u : ℕ) (o : Decision) → Each Plain (finish_posts cl d u o)
   plain_finish u o = each_to Plain cl.shards (finish_to cl d u o) (λ x. to_one x o)
     where
       to_one : (x : ℕ) (o : Decision) → Each Plain (finish_to cl d u o x)
@@ -134,14 +134,14 @@ module _ (c : Layout) (s : Scene) (inv : (u : ℕ) → Agreeing c u s) (d : ℕ)
   accepts_fair v u b o g t low h = dull (accepts cl d v u b o) (plain_vote u b o) (low, h) g t
 
   -- one more gather
-  gathers_put : (u : ℕ) (g : Gather) → Proposal u s g.ballot (Commit g.body) → Gathers s (with_gather vol u g)
+  gathers_put : (u : ℕ) (g : GatherState) → Proposal u s g.ballot (Commit g.body) → Gathers s (with_gather vol u g)
   gathers_put u g h w k is =
       ⊎_elim
-      (λ (e : (u, g) ≡ (w, k)). subst (λ (y : ℕ × Gather). Proposal y.0 s y.1.ballot (Commit y.1.body)) e h)
+      (λ (e : (u, g) ≡ (w, k)). subst (λ (y : ℕ × GatherState). Proposal y.0 s y.1.ballot (Commit y.1.body)) e h)
       (λ (old : In (w, k) vol.gathers). known w k old)
       (in_put u g vol.gathers (w, k) is)
 
-  takes_with_gather : (u : ℕ) (g : Gather) → Fewer (with_gather vol u g)
+  takes_with_gather : (u : ℕ) (g : GatherState) → Fewer (with_gather vol u g)
   takes_with_gather u g = record { rises = all_takes.rises; each = λ w k is. is }
 
   above : (a b : ℕ) → nat_lt a b ≡ false → b ≤ a
@@ -150,17 +150,17 @@ module _ (c : Layout) (s : Scene) (inv : (u : ℕ) → Agreeing c u s) (d : ℕ)
   refuses_fair : (v : CoordVolatile) (u b : ℕ) (reason : Reason) → Gathers s v → Fewer v → Fair s d (refuses cl d v u b reason)
   refuses_fair v u b reason g t = dull (refuses cl d v u b reason) (each_one Plain (proposer cl u b) (Refused u b d reason) tt) tt g t
 
-  plain_prepare : (u : ℕ) (g : Gather) → Each Plain (to_each cl.shards (prepare_to cl d u g))
+  plain_prepare : (u : ℕ) (g : GatherState) → Each Plain (to_each cl.shards (prepare_to cl d u g))
   plain_prepare u g = each_to Plain cl.shards (prepare_to cl d u g)
       (λ x. on_cond (Each Plain) (touches cl g.body x && not (member nat_cmp g.yes x)) _ _ (λ _. each_one Plain (shard_server d x) (Prepare u (part cl x g.body)) tt) (λ _. each_none Plain))
 
-  gathering : (u : ℕ) (g : Gather) → promise_of dur.promises u ≤ g.ballot → Proposal u s g.ballot (Commit g.body) → Fair s d (gathers_on cl d vol u g)
+  gathering : (u : ℕ) (g : GatherState) → promise_of dur.promises u ≤ g.ballot → Proposal u s g.ballot (Commit g.body) → Fair s d (gathers_on cl d vol u g)
   gathering u g low h =
       on_cond (Fair s d) (has_all cl g) _ _
       (λ _. accepts_fair (with_gather vol u g) u g.ballot (Commit g.body) (gathers_put u g h) (takes_with_gather u g) low h)
       (λ _. dull _ (plain_prepare u g) tt (gathers_put u g h) (takes_with_gather u g))
 
-  higher : (u b : ℕ) (g : Gather) (body : List Entry) → Proposal u s b (Commit body) → Proposal u s g.ballot (Commit g.body) → Proposal u s (max g.ballot b) (Commit g.body)
+  higher : (u b : ℕ) (g : GatherState) (body : List Entry) → Proposal u s b (Commit body) → Proposal u s g.ballot (Commit g.body) → Proposal u s (max g.ballot b) (Commit g.body)
   higher u b g body h old =
       ⊎_elim
       (λ (e : max g.ballot b ≡ g.ballot). rw e old)
@@ -188,7 +188,7 @@ module _ (c : Layout) (s : Scene) (inv : (u : ℕ) → Agreeing c u s) (d : ℕ)
       (λ old _. quiet _ (plain_vote u b old))))
       (λ out _. says_one (proposer cl u b) (Decided u out) tt)
 
-  waiting_gather_is : (u sh : ℕ) (g : Gather) → waiting_gather cl dur vol u sh ≡ Some g → found nat_cmp vol.gathers u ≡ Some g
+  waiting_gather_is : (u sh : ℕ) (g : GatherState) → waiting_gather cl dur vol u sh ≡ Some g → found nat_cmp vol.gathers u ≡ Some g
   waiting_gather_is u sh g =
       on_maybe (λ o. o ≡ Some g → found nat_cmp vol.gathers u ≡ Some g) (outcome_of dur.outcomes u) _ _
       (λ _. on_maybe (λ o. o ≡ Some g → found nat_cmp vol.gathers u ≡ Some g) (found nat_cmp vol.gathers u) _ _
@@ -198,7 +198,7 @@ module _ (c : Layout) (s : Scene) (inv : (u : ℕ) → Agreeing c u s) (d : ℕ)
       (λ _ e. never g e)))
       (λ _ _ e. never g e)
 
-  said_yes_fair : (u : ℕ) (g : Gather) → Proposal u s g.ballot (Commit g.body) → Fair s d (said_yes cl d dur vol u g)
+  said_yes_fair : (u : ℕ) (g : GatherState) → Proposal u s g.ballot (Commit g.body) → Fair s d (said_yes cl d dur vol u g)
   said_yes_fair u g h =
       on_cond (Fair s d) (has_all cl g) _ _
       (λ _. on_cond (Fair s d) (nat_lt g.ballot (promise_of dur.promises u)) _ _
@@ -225,7 +225,7 @@ module _ (c : Layout) (s : Scene) (inv : (u : ℕ) → Agreeing c u s) (d : ℕ)
         each = λ u k is. h.each u k (found_without 0 u t v.takeovers k h.rises is);
       }
 
-  learns_fair : (v : CoordVolatile) (u : ℕ) (o : Decision) → Gathers s v → Fewer v → Fair s d (learns cl d v u o)
+  learns_fair : (v : CoordVolatile) (u : ℕ) (o : Decision) → Gathers s v → Fewer v → Fair s d (coord_learns cl d v u o)
   learns_fair v u o g t = dull _ (plain_finish u o) tt (forget_gathers v u g) (forget_takes v u t)
 
   on_voted_fair : (u b from : ℕ) (o : Decision) → Fair s d (on_voted cl d dur vol u b from o)
@@ -240,7 +240,7 @@ module _ (c : Layout) (s : Scene) (inv : (u : ℕ) → Agreeing c u s) (d : ℕ)
   on_decided_fair u o = on_maybe (Fair s d) (outcome_of dur.outcomes u) _ _ (λ _. learns_fair vol u o known all_takes) (λ _ _. idle)
 
   do_catch_fair : Fair s d (do_catch cl d vol)
-  do_catch_fair = quiet _ (each_to Plain cl.dcs _ (λ e. on_cond (Each Plain) (e == d) _ _ (λ _. each_none Plain) (λ _. each_one Plain (coordinator e) (CatchAsk (place_of vol e)) tt)))
+  do_catch_fair = quiet _ (each_to Plain cl.dcs _ (λ e. on_cond (Each Plain) (e == d) _ _ (λ _. each_none Plain) (λ _. each_one Plain (coordinator e) (CatchAsk (cursor_of vol e)) tt)))
 
   forget_all_gathers : (v : CoordVolatile) (es : List (ℕ × Decision)) → Gathers s v → Gathers s (forgotten_all v es)
   forget_all_gathers v [] h = h
@@ -250,7 +250,7 @@ module _ (c : Layout) (s : Scene) (inv : (u : ℕ) → Agreeing c u s) (d : ℕ)
   forget_all_takes v [] h = h
   forget_all_takes v (e ∷ es) h = forget_all_takes (forgotten v e.0) es (forget_takes v e.0 h)
 
-  plain_finish_all : (es : List (ℕ × Decision)) → Each Plain (finishes_all cl d es)
+  plain_finish_all : (es : List (ℕ × Decision)) → Each Plain (finish_all_posts cl d es)
   plain_finish_all [] = each_none Plain
   plain_finish_all (e ∷ es) = each_both Plain _ _ (plain_finish e.0 e.1) (plain_finish_all es)
 
@@ -261,12 +261,12 @@ module _ (c : Layout) (s : Scene) (inv : (u : ℕ) → Agreeing c u s) (d : ℕ)
   on_catch_page_fair : (from place : ℕ) (es : List (ℕ × Decision)) → Fair s d (on_catch_page cl d dur vol from place es)
   on_catch_page_fair from place es =
       let new : List (ℕ × Decision) = undecided dur.outcomes es in
-      let v : CoordVolatile = with_place vol from (place + length es) in
-      let more : Sends = asks_next (coordinator from) place es in
+      let v : CoordVolatile = with_coord_cursor vol from (place + length es) in
+      let more : Posts = asks_next_coord_page (coordinator from) place es in
       let plain : Each Plain more = on_cond (Each Plain) (length es == most_entries) _ _ (λ _. each_one Plain (coordinator from) (CatchAsk (place + length es)) tt) (λ _. each_none Plain) in
-      on_cond (Fair s d) (is_next_page d vol from place es) _ _
+      on_cond (Fair s d) (is_next_coord_page d vol from place es) _ _
       (λ _. dull (takes_page cl d v new more)
-      (each_both Plain (finishes_all cl d new) more (plain_finish_all new) plain)
+      (each_both Plain (finish_all_posts cl d new) more (plain_finish_all new) plain)
       (outcomes_claims new)
       (forget_all_gathers v new known)
       (forget_all_takes v new (record { rises = all_takes.rises; each = λ w k is. is })))
@@ -303,15 +303,15 @@ module _ (c : Layout) (s : Scene) (inv : (u : ℕ) → Agreeing c u s) (d : ℕ)
 
   -- TAKE-OVERS
   -- one more take-over
-  takes_put : (a : CoordAct) (u : ℕ) (n : TakeOver) → a.after.takeovers ≡ put nat_cmp vol.takeovers u n
+  takes_put : (a : CoordAct) (u : ℕ) (n : TakeoverState) → a.after.takeovers ≡ put nat_cmp vol.takeovers u n
       → Opens u s d n ⊎ Opened u s d a n → TakesOf s d a
   takes_put a u n e h w k is =
       ⊎_elim
       (λ (same : (w ≡ u) × (found nat_cmp (put nat_cmp vol.takeovers u n) w ≡ Some n)).
-      let new : n ≡ k = some_is n k (sym same.1 ∙ ap (λ (m : Table ℕ TakeOver). found nat_cmp m w) (sym e) ∙ is) in
-      subst (λ (y : ℕ × TakeOver). Opens y.0 s d y.1 ⊎ Opened y.0 s d a y.1) (λ i. (sym same.0 i, new i)) h)
+      let new : n ≡ k = some_is n k (sym same.1 ∙ ap (λ (m : Table ℕ TakeoverState). found nat_cmp m w) (sym e) ∙ is) in
+      subst (λ (y : ℕ × TakeoverState). Opens y.0 s d y.1 ⊎ Opened y.0 s d a y.1) (λ i. (sym same.0 i, new i)) h)
       (λ (other : (w ≡ u → ⊥) × (found nat_cmp (put nat_cmp vol.takeovers u n) w ≡ found nat_cmp vol.takeovers w)).
-      inl (((inv w).coords d).takes k (sym other.1 ∙ ap (λ (m : Table ℕ TakeOver). found nat_cmp m w) (sym e) ∙ is)))
+      inl (((inv w).coords d).takes k (sym other.1 ∙ ap (λ (m : Table ℕ TakeoverState). found nat_cmp m w) (sym e) ∙ is)))
       (put_cases w u n vol.takeovers)
 
   next_is : (u b : ℕ) → next_ballot cl d (promise_of dur.promises u) ≡ Some b → b ≡ next_number cl d (promise_of dur.promises u)
@@ -336,7 +336,7 @@ module _ (c : Layout) (s : Scene) (inv : (u : ℕ) → Agreeing c u s) (d : ℕ)
             takes = takes_put a u (opening b eager) refl (inr (record { dc = dc; next = next; heard = refl; silent = refl; best = refl; noted = refl }));
           }
 
-  hear_opens : (u b from : ℕ) (r : Reported) (k : TakeOver) → k.ballot ≡ b → Answer u s b from r → Opens u s d k → Opens u s d (hears k from r)
+  hear_opens : (u b from : ℕ) (r : Reported) (k : TakeoverState) → k.ballot ≡ b → Answer u s b from r → Opens u s d k → Opens u s d (hears k from r)
   hear_opens u b from r k at_it h o =
       record {
         above0 = o.above0;
@@ -359,7 +359,7 @@ module _ (c : Layout) (s : Scene) (inv : (u : ℕ) → Agreeing c u s) (d : ℕ)
       silents (Some x) h e i = o.silent e i
 
   -- one that has proposed keeps its ballot, and asks for nothing any more
-  spoken : (u : ℕ) (k : TakeOver) → Opens u s d k → Opens u s d (proposed k)
+  spoken : (u : ℕ) (k : TakeoverState) → Opens u s d k → Opens u s d (proposed k)
   spoken u k o = record {
     above0 = o.above0;
     own = o.own;
@@ -375,7 +375,7 @@ module _ (c : Layout) (s : Scene) (inv : (u : ℕ) → Agreeing c u s) (d : ℕ)
       let e : Propose u c p ≡ Propose u b v = (each_all (λ m. m ≡ Propose u b v) cl (Propose u b v) refl).each (Propose u c p) h in
       cc
 
-  goes_on_fair : (u : ℕ) (k : TakeOver) → k.has_proposed ≡ false → Opens u s d k → Fair s d (goes_on cl vol u k)
+  goes_on_fair : (u : ℕ) (k : TakeoverState) → k.has_proposed ≡ false → Opens u s d k → Fair s d (proposes_or_waits cl vol u k)
   goes_on_fair u k quiet0 o =
       on_maybe (Fair s d) (chooses cl k) _ _ (λ _. waits) (λ v is. chosen v is)
     where
@@ -392,7 +392,7 @@ module _ (c : Layout) (s : Scene) (inv : (u : ℕ) → Agreeing c u s) (d : ℕ)
 
       chosen : (v : Decision) → chooses cl k ≡ Some v → Fair s d (coord_says (with_takeover vol u (proposed k)) (to_all cl (Propose u k.ballot v)))
       chosen v is =
-          let n : TakeOver = proposed k in
+          let n : TakeoverState = proposed k in
           let a : CoordAct = coord_says (with_takeover vol u n) (to_all cl (Propose u k.ballot v)) in
           let offer : Proposing u s d a k.ballot v = record { k = k; quiet = quiet0; after = put_same u n vol.takeovers; at_it = refl; chose = is; before = o; norec = refl; all = all_same u k.ballot v } in
           let offers : Each (Offers s d a) (to_all cl (Propose u k.ballot v)) = each_all (Offers s d a) cl (Propose u k.ballot v) offer in
@@ -406,18 +406,18 @@ module _ (c : Layout) (s : Scene) (inv : (u : ℕ) → Agreeing c u s) (d : ℕ)
             takes = takes_put a u n refl (inl (spoken u k o));
           }
 
-  waiting_takeover_is : (u b from : ℕ) (k : TakeOver) → waiting_takeover dur vol u b from ≡ Some k → (found nat_cmp vol.takeovers u ≡ Some k) × (k.ballot ≡ b) × (k.has_proposed ≡ false)
+  waiting_takeover_is : (u b from : ℕ) (k : TakeoverState) → waiting_takeover dur vol u b from ≡ Some k → (found nat_cmp vol.takeovers u ≡ Some k) × (k.ballot ≡ b) × (k.has_proposed ≡ false)
   waiting_takeover_is u b from k =
       on_maybe P (outcome_of dur.outcomes u) _ _
       (λ _. on_maybe P (found nat_cmp vol.takeovers u) _ _
       (λ _ e. never k e)
       (λ y is. on_cond P ((y.ballot == b) && (not y.has_proposed && not (member nat_cmp y.heard from))) _ _
       (λ t e. let same : y ≡ k = some_is y k e in
-      (is ∙ e, ap (λ (z : TakeOver). z.ballot) (sym same) ∙ eqb-true y.ballot b (and_left _ _ t), ap (λ (z : TakeOver). z.has_proposed) (sym same) ∙ not_true _ (and_left _ _ (and_right _ _ t))))
+      (is ∙ e, ap (λ (z : TakeoverState). z.ballot) (sym same) ∙ eqb-true y.ballot b (and_left _ _ t), ap (λ (z : TakeoverState). z.has_proposed) (sym same) ∙ not_true _ (and_left _ _ (and_right _ _ t))))
       (λ _ e. never k e)))
       (λ _ _ e. never k e)
     where
-      P : Option TakeOver → Type 0
+      P : Option TakeoverState → Type 0
       P o = o ≡ Some k → (found nat_cmp vol.takeovers u ≡ Some k) × (k.ballot ≡ b) × (k.has_proposed ≡ false)
 
   on_promise_fair : (u b from : ℕ) (r : Reported) → Answer u s b from r → Fair s d (on_promise cl dur vol u b from r)

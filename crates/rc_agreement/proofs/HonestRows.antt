@@ -16,8 +16,8 @@ use Rattle.rc_msg.specs.declared.msg.Msg.TheVariants.{Propose, Prepare, Prepared
 use Rattle.rc_record.specs.declared.record.Record.{Record}
 use Rattle.rc_record.specs.declared.record.Record.TheVariants.{Promised, Accepted, Decided as OutcomesDecided}
 use Rattle.rc_record.specs.CoordState.{CoordDurable, promise_of, outcome_of as listed_outcome}
-use Rattle.rc_protocol.specs.Messages.{Sends, coordinator, shard_server, client_of, one, to_each, to_all, most_entries}
-use Rattle.rc_protocol.specs.Coordinator.{CoordVolatile, CoordAct, Gather, coord_stays, coord_says, proposer, vote, accepts, finish_to, finishes, forgotten, learns, takes_over, has_all, with_gather, prepare_to, gathers_on, gather_at, takes_proposal, refuses, accepted_at, on_propose, waiting_gather, said_yes, with_yes, on_prepared, promise_record, on_ask, hears, chooses, waiting_takeover, with_takeover, proposed, on_promise, is_decided_by, tally_of, with_vote, on_voted, page_from, place_of, is_next_page, with_place, undecided, forgotten_all, finishes_all, outcomes_record, asks_next, on_catch_page, coord_row}
+use Rattle.rc_protocol.specs.Messages.{Posts, coordinator, shard_server, client_of, one, to_each, to_all, most_entries}
+use Rattle.rc_protocol.specs.Coordinator.{CoordVolatile, CoordAct, GatherState, coord_stays, coord_says, proposer, vote, accepts, finish_to, finish_posts, forgotten, coord_learns, takes_over, has_all, with_gather, prepare_to, gathers_on, gather_at, takes_proposal, refuses, accepted_at, on_propose, waiting_gather, said_yes, with_yes, on_prepared, promise_record, on_ask, hears, chooses, waiting_takeover, with_takeover, proposed, on_promise, is_decided_by, tally_of, with_vote, on_voted, page_from, cursor_of, is_next_coord_page, with_coord_cursor, undecided, forgotten_all, finish_all_posts, outcomes_record, asks_next_coord_page, on_catch_page, coord_row}
 use Rattle.rc_agreement.proofs.Cases.{on_cond, on_maybe, some_is, never}
 use Rattle.rc_agreement.proofs.Tables.{found_in, in_put, in_without}
 use Rattle.rc_protocol.specs.Acts.{NodeCause, Came, Takes, Catches}
@@ -63,7 +63,7 @@ module _ (c : Layout) (s : Scene) (inv : (u : ℕ) → Agreeing c u s) (h : Hear
   counts : Counts s vol.votes
   counts = h.counts d
 
-  stated : (ms : Sends) → EachTo (Tells s d None) ms → Honest s d (coord_says vol ms)
+  stated : (ms : Posts) → EachTo (Tells s d None) ms → Honest s d (coord_says vol ms)
   stated ms k = record { told = k; notes = tt; counts = counts }
 
   idle : Honest s d (coord_stays vol)
@@ -92,7 +92,7 @@ module _ (c : Layout) (s : Scene) (inv : (u : ℕ) → Agreeing c u s) (h : Hear
   refuses_honest : (v : CoordVolatile) (t b : ℕ) (reason : Reason) → Counts s v.votes → Honest s d (refuses cl d v t b reason)
   refuses_honest v t b reason k = record { told = to_one (Tells s d None) (proposer cl t b) (Refused t b d reason) tt; notes = tt; counts = k }
 
-  told_finish : (r : Option Record) (t : ℕ) (o : Decision) → ListedBy r t o → Learns s t o → EachTo (Tells s d r) (finishes cl d t o)
+  told_finish : (r : Option Record) (t : ℕ) (o : Decision) → ListedBy r t o → Learns s t o → EachTo (Tells s d r) (finish_posts cl d t o)
   told_finish r t o l k = to_many (Tells s d r) cl.shards (finish_to cl d t o) (λ x. told_one x o l k)
     where
       told_one : (x : ℕ) (o : Decision) → ListedBy r t o → Learns s t o → EachTo (Tells s d r) (finish_to cl d t o x)
@@ -105,7 +105,7 @@ module _ (c : Layout) (s : Scene) (inv : (u : ℕ) → Agreeing c u s) (h : Hear
   forgets : (v : CoordVolatile) (u : ℕ) → Counts s v.votes → Counts s (forgotten v u).votes
   forgets v u k = record { each = λ t tally i. k.each t tally (in_without u v.votes (t, tally) i) }
 
-  learns_honest : (v : CoordVolatile) (t : ℕ) (o : Decision) → Counts s v.votes → Learns s t o → Honest s d (learns cl d v t o)
+  learns_honest : (v : CoordVolatile) (t : ℕ) (o : Decision) → Counts s v.votes → Learns s t o → Honest s d (coord_learns cl d v t o)
   learns_honest v t o k l =
       record {
         told = told_finish (Some (OutcomesDecided ((t, o) ∷ []))) t o (inl refl) l;
@@ -131,11 +131,11 @@ module _ (c : Layout) (s : Scene) (inv : (u : ℕ) → Agreeing c u s) (h : Hear
       (λ _. record { told = to_none (Tells s d None); notes = tt; counts = counts_vote t b from o k }))
       (λ _ _. idle)
 
-  told_prepare : (t : ℕ) (g : Gather) → EachTo (Tells s d None) (to_each cl.shards (prepare_to cl d t g))
+  told_prepare : (t : ℕ) (g : GatherState) → EachTo (Tells s d None) (to_each cl.shards (prepare_to cl d t g))
   told_prepare t g = to_many (Tells s d None) cl.shards (prepare_to cl d t g)
       (λ x. on_cond (EachTo (Tells s d None)) (touches cl g.body x && not (member nat_cmp g.yes x)) _ _ (λ _. to_one (Tells s d None) (shard_server d x) (Prepare t (part cl x g.body)) tt) (λ _. to_none (Tells s d None)))
 
-  gathers_honest : (t : ℕ) (g : Gather) → Honest s d (gathers_on cl d vol t g)
+  gathers_honest : (t : ℕ) (g : GatherState) → Honest s d (gathers_on cl d vol t g)
   gathers_honest t g =
       on_cond H (has_all cl g) _ _
       (λ _. accepts_honest (with_gather vol t g) t g.ballot (Commit g.body) counts)
@@ -165,7 +165,7 @@ module _ (c : Layout) (s : Scene) (inv : (u : ℕ) → Agreeing c u s) (h : Hear
           subst (λ (z : ℕ × Decision). Vote t s d z.0 z.1) (λ i. (n i, v i)) (((inv t).coords d).real x.0 x.1 is))
           (λ k f. never p f) e
 
-  said_yes_honest : (t : ℕ) (g : Gather) → Honest s d (said_yes cl d dur vol t g)
+  said_yes_honest : (t : ℕ) (g : GatherState) → Honest s d (said_yes cl d dur vol t g)
   said_yes_honest t g =
       on_cond H (has_all cl g) _ _
       (λ _. on_cond H (nat_lt g.ballot (promise_of dur.promises t)) _ _
@@ -208,7 +208,7 @@ module _ (c : Layout) (s : Scene) (inv : (u : ℕ) → Agreeing c u s) (h : Hear
       (λ o is. says_one (client_of t) (Decided t o) (refl, decided t o is))
 
   -- pages
-  told_finish_all : (r : Option Record) (es : List (ℕ × Decision)) → ((t : ℕ) (o : Decision) → In (t, o) es → ListedBy r t o) → LearnsAll s es → EachTo (Tells s d r) (finishes_all cl d es)
+  told_finish_all : (r : Option Record) (es : List (ℕ × Decision)) → ((t : ℕ) (o : Decision) → In (t, o) es → ListedBy r t o) → LearnsAll s es → EachTo (Tells s d r) (finish_all_posts cl d es)
   told_finish_all r [] l k = to_none (Tells s d r)
   told_finish_all r (e ∷ es) l k = to_both (Tells s d r) _ _ (told_finish r e.0 e.1 (l e.0 e.1 (inl refl)) (k e.0 e.1 (inl refl))) (told_finish_all r es (λ t o i. l t o (inr i)) (λ t o i. k t o (inr i)))
 
@@ -224,18 +224,18 @@ module _ (c : Layout) (s : Scene) (inv : (u : ℕ) → Agreeing c u s) (h : Hear
   page_notes [] k = tt
   page_notes (e ∷ es) k = k
 
-  told_next : (r : Option Record) (p : Party) (place : ℕ) (es : List (ℕ × Decision)) → EachTo (Tells s d r) (asks_next p place es)
+  told_next : (r : Option Record) (p : Party) (place : ℕ) (es : List (ℕ × Decision)) → EachTo (Tells s d r) (asks_next_coord_page p place es)
   told_next r p place es = on_cond (EachTo (Tells s d r)) (length es == most_entries) _ _ (λ _. to_one (Tells s d r) p (CatchAsk (place + length es)) tt) (λ _. to_none (Tells s d r))
 
   on_catch_page_honest : (from place : ℕ) (es : List (ℕ × Decision)) → LearnsAll s es → Honest s d (on_catch_page cl d dur vol from place es)
   on_catch_page_honest from place es k =
       let new : List (ℕ × Decision) = undecided dur.outcomes es in
       let good : LearnsAll s new = λ t o i. k t o (in_filter _ (t, o) es i) in
-      on_cond H (is_next_page d vol from place es) _ _
+      on_cond H (is_next_coord_page d vol from place es) _ _
       (λ _. record {
-        told = to_both (Tells s d (outcomes_record new)) (finishes_all cl d new) (asks_next (coordinator from) place es) (told_finish_all (outcomes_record new) new (page_listed new) good) (told_next (outcomes_record new) (coordinator from) place es);
+        told = to_both (Tells s d (outcomes_record new)) (finish_all_posts cl d new) (asks_next_coord_page (coordinator from) place es) (told_finish_all (outcomes_record new) new (page_listed new) good) (told_next (outcomes_record new) (coordinator from) place es);
         notes = page_notes new good;
-        counts = forgets_all (with_place vol from (place + length es)) new counts;
+        counts = forgets_all (with_coord_cursor vol from (place + length es)) new counts;
       })
       (λ _. idle)
 
@@ -258,4 +258,4 @@ module _ (c : Layout) (s : Scene) (inv : (u : ℕ) → Agreeing c u s) (h : Hear
       comes (CatchPage e p es) a x = guarded (is_dc cl e) _ (on_catch_page_honest e p es x)
       comes _ a x = idle
   act_honest (Takes t) due = told_or_takes t true
-  act_honest Catches due = stated _ (to_many (Tells s d None) cl.dcs _ (λ e. on_cond (EachTo (Tells s d None)) (e == d) _ _ (λ _. to_none (Tells s d None)) (λ _. to_one (Tells s d None) (coordinator e) (CatchAsk (place_of vol e)) tt)))
+  act_honest Catches due = stated _ (to_many (Tells s d None) cl.dcs _ (λ e. on_cond (EachTo (Tells s d None)) (e == d) _ _ (λ _. to_none (Tells s d None)) (λ _. to_one (Tells s d None) (coordinator e) (CatchAsk (cursor_of vol e)) tt)))

@@ -15,7 +15,7 @@ use Rattle.rc_record.specs.declared.record.Record.{Record}
 use Rattle.rc_record.specs.declared.record.Record.TheVariants.{Head, Prepared, Finished, Promised, Accepted, Decided as OutcomesDecided}
 use Rattle.rc_record.specs.CoordState.{CoordDurable, coord_applied, outcomes_joined, outcome_of as listed_outcome}
 use Rattle.rc_record.specs.ShardState.{ShardDurable, shard_applied, new_durable as new_shard_durable}
-use Rattle.rc_protocol.specs.Messages.{Sends, coordinator, client_of, shard_server, most_entries}
+use Rattle.rc_protocol.specs.Messages.{Posts, coordinator, client_of, shard_server, most_entries}
 use Rattle.rc_protocol.specs.Coordinator.{CoordAct, new_volatile as new_coord_volatile}
 use Rattle.rc_protocol.specs.Shard.{ShardVolatile, new_volatile as new_shard_volatile}
 use Rattle.rc_protocol.specs.Client.{Client, ClientAct, new_client}
@@ -105,7 +105,7 @@ stop_heard s d there up r n h =
     subst (λ (l : List Envelope). Heard (record { parties = with_coord s.parties d (record { up = up; log = logged (at s d).log r; durable = applied coord_applied (at s d).durable r; volatile = new_coord_volatile }) r; sent = l })) (append-nil s.sent) k
 
 -- SHARD SERVERS
-server_heard : (s : Scene) (d sh : ℕ) → ThereIs s d sh → (up : Bool) (r : Option Record) (v : ShardVolatile) (ms : Sends) → ShardNotes s sh r → ((m : Msg) (to : Party) → In (to, m) ms → Knows s to m) → Heard s
+server_heard : (s : Scene) (d sh : ℕ) → ThereIs s d sh → (up : Bool) (r : Option Record) (v : ShardVolatile) (ms : Posts) → ShardNotes s sh r → ((m : Msg) (to : Party) → In (to, m) ms → Knows s to m) → Heard s
     → Heard (record { parties = with_shard s.parties d sh (record { up = up; log = logged (shard_in s d sh).log r; durable = applied shard_applied (shard_in s d sh).durable r; volatile = v }); sent = s.sent ++ envelopes (shard_server d sh) ms })
 server_heard s d sh there up r v ms notes says h =
     let y : ShardNode = record { up = up; log = logged (shard_in s d sh).log r; durable = applied shard_applied (shard_in s d sh).durable r; volatile = v } in
@@ -131,7 +131,7 @@ server_stops s d sh there up r n h =
     (append-nil s.sent) (server_heard s d sh there up r new_shard_volatile [] n (λ m to i. absurd i) h)
 
 -- CLIENTS
-client_heard : (s : Scene) (cs : Table ℕ Client) (u : ℕ) (ms : Sends) → ((m : Msg) (to : Party) → In (to, m) ms → Knows s to m)
+client_heard : (s : Scene) (cs : Table ℕ Client) (u : ℕ) (ms : Posts) → ((m : Msg) (to : Party) → In (to, m) ms → Knows s to m)
     → ((t : ℕ) (x : Client) → found nat_cmp cs t ≡ Some x → Learner s t x) → Heard s
     → Heard (record { parties = record s.parties { clients = cs }; sent = s.sent ++ envelopes (client_of u) ms })
 client_heard s cs u ms says all h =

@@ -22,7 +22,7 @@ use Rattle.rc_protocol.specs.Coordinator.{CoordAct}
 use Rattle.rc_protocol.specs.Client.{Client, ClientAct}
 use Rattle.rc_protocol.specs.Nodes.{CoordNode, ShardNode}
 use Rattle.rc_runs.specs.Votes.{is_listed}
-use Rattle.rc_runs.specs.World.{World, Parties, Deed, Idle, ByClient, ByCoord, ByShard, CoordStops, ShardStops, Course, Goes, Stops, coord_at, shard_at, message, received, coord_does, shard_does, client_does, catches, stops, restarts, deed, along, replaced, joined, moved, starts, lines_of, course_deed, step, printed}
+use Rattle.rc_runs.specs.World.{World, Parties, Deed, Idle, ByClient, ByCoord, ByShard, CoordStops, ShardStops, Course, Goes, Stops, coord_at, shard_at, message, received, coord_does, shard_does, client_does, catches, stops, restarts, deed, along, replaced, after_begin, parties_after, restart_lines, lines_of, course_deed, step, printed}
 use Rattle.rc_runs.specs.Refusals.{Happening, is_event, after_event, run, lines_at, lines}
 use Rattle.rc_claims.specs.Outcomes.{PrintedIsOrdered}
 use Rattle.rc_agreement.proofs.Cases.{on_cond, on_maybe}
@@ -49,7 +49,7 @@ record Holds (w : Parties) (t : ℕ) (outcome : Outcome) : Type 0 where
 
 -- an outcome that is printed in a deed is held after it
 record Tells (w : Parties) (d : Deed) : Type 0 where
-  each : (t : ℕ) (outcome : Outcome) → In (Learned t outcome) (lines_of d) → Holds (moved w d) t outcome
+  each : (t : ℕ) (outcome : Outcome) → In (Learned t outcome) (lines_of d) → Holds (parties_after w d) t outcome
 
 stop_other : (node : NodeId) (t : ℕ) (outcome : Outcome) → In (Learned t outcome) (Stopped node ∷ []) → ⊥
 stop_other node t outcome i = ⊎_elim (λ (e : Stopped node ≡ Learned t outcome). absurd (cc)) (λ n. n) i
@@ -126,8 +126,8 @@ restart_tells : (w : Parties) (course : Course) (node : NodeId) → Tells w (alo
 restart_tells w course (Coord d) = on_maybe (λ x. Tells w (along course x)) (coord_at w d) _ _ (λ _. rests w course) (λ x _. coord_tells w course d _ _)
 restart_tells w course (ShardServer d s) = on_maybe (λ x. Tells w (along course x)) (shard_at w d s) _ _ (λ _. rests w course) (λ x _. shard_tells w course d s _ _)
 
-deed_tells : (w : Parties) (sent : List Envelope) (e : Event) (course : Course) → Tells (joined w e) (along course (deed w sent e))
-deed_tells w sent (Begin t) course = rests (joined w (Begin t)) course
+deed_tells : (w : Parties) (sent : List Envelope) (e : Event) (course : Course) → Tells (after_begin w e) (along course (deed w sent e))
+deed_tells w sent (Begin t) course = rests (after_begin w (Begin t)) course
 deed_tells w sent (Read t k) course = client_does_tells w course t (Reads k)
 deed_tells w sent (Write t k value) course = client_does_tells w course t (Writes k value)
 deed_tells w sent (Commit t) course = client_does_tells w course t Commits
@@ -142,7 +142,7 @@ deed_tells w sent (Crash node) course = stop_tells w course node
 deed_tells w sent (CrashAt node k pick) course = rests w course
 deed_tells w sent (Restart node) course = restart_tells w course node
 
-starts_other : (e : Event) (t : ℕ) (outcome : Outcome) → In (Learned t outcome) (starts e) → ⊥
+starts_other : (e : Event) (t : ℕ) (outcome : Outcome) → In (Learned t outcome) (restart_lines e) → ⊥
 starts_other (Restart node) t outcome i = ⊎_elim (λ (e : Up node ≡ Learned t outcome). absurd (cc)) (λ n. n) i
 starts_other _ t outcome i = i
 
@@ -153,9 +153,9 @@ event_tells w h t outcome = go (is_event w h)
     go : (b : Bool) → In (Learned t outcome) (cond b (printed w h.0 h.1) []) → Holds (cond b (step w h.0 h.1) w).parties t outcome
     go true i =
         ⊎_elim
-        (λ (k : In (Learned t outcome) (starts h.0)). absurd (starts_other h.0 t outcome k))
+        (λ (k : In (Learned t outcome) (restart_lines h.0)). absurd (starts_other h.0 t outcome k))
         (λ (k : In (Learned t outcome) (lines_of (course_deed w h.0 h.1))). (deed_tells w.parties w.sent h.0 h.1).each t outcome k)
-        (in_either (Learned t outcome) (starts h.0) (lines_of (course_deed w h.0 h.1)) i)
+        (in_either (Learned t outcome) (restart_lines h.0) (lines_of (course_deed w h.0 h.1)) i)
     go false i = absurd i
 
 -- what is listed stays listed

@@ -20,7 +20,7 @@ use Rattle.rc_protocol.specs.Coordinator.{CoordAct, do_catch as coord_catches, n
 use Rattle.rc_protocol.specs.Client.{Client, ClientAct, ClientRefusal, NotOpen, is_open}
 use Rattle.rc_protocol.specs.Acts.{NodeCause, Came, Takes, Catches, coord_act, shard_act, ClientCause, Hears, Reads, Writes, Commits, Cancels, Retries, Vanishes, client_by_row, client_act, if_open, if_room, refusal}
 use Rattle.rc_protocol.specs.Nodes.{CoordNode, ShardNode, coord_index, shard_index, coord_started, shard_started, coord_after, shard_after, coord_stopped, shard_stopped}
-use Rattle.rc_runs.specs.World.{World, Parties, Deed, Idle, ByClient, ByCoord, ByShard, CoordStops, ShardStops, Course, Goes, Stops, coord_at, shard_at, message, received, coord_does, shard_does, client_does, catches, stops, restarts, along, envelopes, with_client, with_coord, with_shard, with_new_client, begun, done, step}
+use Rattle.rc_runs.specs.World.{World, Parties, Deed, Idle, ByClient, ByCoord, ByShard, CoordStops, ShardStops, Course, Goes, Stops, coord_at, shard_at, message, received, coord_does, shard_does, client_does, catches, stops, restarts, along, envelopes, with_client, with_coord, with_shard, with_new_client, at_deed, after_deed, step}
 use Rattle.rc_runs.specs.Refusals.{Happening, wrong, is_begun, is_event, after_event, run}
 use Rattle.rc_agreement.proofs.Cases.{on_cond, on_maybe, never}
 use Rattle.rc_agreement.proofs.Tables.{got_in, set_set, set_itself}
@@ -132,7 +132,7 @@ open_of x reason = on_cond (λ o. o ≡ None → is_open x.phase ≡ true) (is_o
 module _ (P : Scene → Type 0) (m : Keeps P) where
   -- after the deed of this party, v being the world as the event begins
   abbrev Q : World → Party → Course → Deed → Type 0
-  Q v from course d = P (scene (done v from (along course d)))
+  Q v from course d = P (scene (after_deed v from (along course d)))
 
   no_more : (w : Parties) (sent : List Envelope) → P (record { parties = w; sent = sent }) → P (record { parties = w; sent = sent ++ [] })
   no_more w sent p = subst (λ (l : List Envelope). P (record { parties = w; sent = l })) (sym (append-nil sent)) p
@@ -146,7 +146,7 @@ module _ (P : Scene → Type 0) (m : Keeps P) where
       → Q v (coordinator d) course (ByCoord d (at (scene v) d) (act_of (scene v) d k))
   coord_turn v Goes d k there due p = m.turns (scene v) d k there due p
   coord_turn v (Stops kept) d k there due p =
-      on_maybe (λ x. P (scene (done v (coordinator d) x))) (act_of (scene v) d k).logs _ _
+      on_maybe (λ x. P (scene (after_deed v (coordinator d) x))) (act_of (scene v) d k).logs _ _
       (λ _. m.turns (scene v) d k there due p)
       (λ r is. no_more _ v.sent (which kept r is))
     where
@@ -185,7 +185,7 @@ module _ (P : Scene → Type 0) (m : Keeps P) where
       (λ x is. either course x is)
     where
       -- it starts, and then catches up
-      twice : (x : CoordNode) → coord_at v.parties d ≡ Some x → P (scene (done v (coordinator d) (ByCoord d (coord_started x.log) (coord_catches v.parties.layout d new_coord_volatile))))
+      twice : (x : CoordNode) → coord_at v.parties d ≡ Some x → P (scene (after_deed v (coordinator d) (ByCoord d (coord_started x.log) (coord_catches v.parties.layout d new_coord_volatile))))
       twice x is =
           let same = node_is v.parties d x is in
           let there : There (scene v) d = is ∙ ap Some (sym same) in
@@ -199,7 +199,7 @@ module _ (P : Scene → Type 0) (m : Keeps P) where
             parties = record v.parties { coords = cs };
             sent = v.sent ++ envelopes (coordinator d) (coord_catches v.parties.layout d new_coord_volatile).sends;
           })) (set_set v.parties.coords (coord_index d) (coord_started (at (scene v) d).log) (coord_after (coord_started (at (scene v) d).log) (coord_catches v.parties.layout d new_coord_volatile))) p3 in
-          subst (λ (y : CoordNode). P (scene (done v (coordinator d) (ByCoord d (coord_started y.log) (coord_catches v.parties.layout d new_coord_volatile))))) same p4
+          subst (λ (y : CoordNode). P (scene (after_deed v (coordinator d) (ByCoord d (coord_started y.log) (coord_catches v.parties.layout d new_coord_volatile))))) same p4
 
       either : (course : Course) (x : CoordNode) → coord_at v.parties d ≡ Some x → Q v (coordinator d) course (ByCoord d (coord_started x.log) (coord_catches v.parties.layout d new_coord_volatile))
       either Goes x is = twice x is
@@ -210,7 +210,7 @@ module _ (P : Scene → Type 0) (m : Keeps P) where
       → Q v (shard_server d sh) course (ByShard d sh (shard_in (scene v) d sh) (shard_act_of (scene v) d sh k))
   shard_turn v Goes d sh k there due p = m.serves (scene v) d sh k there due p
   shard_turn v (Stops kept) d sh k there due p =
-      on_maybe (λ x. P (scene (done v (shard_server d sh) x))) (shard_act_of (scene v) d sh k).logs _ _
+      on_maybe (λ x. P (scene (after_deed v (shard_server d sh) x))) (shard_act_of (scene v) d sh k).logs _ _
       (λ _. m.serves (scene v) d sh k there due p)
       (λ r is. no_more _ v.sent (which kept r is))
     where
@@ -248,7 +248,7 @@ module _ (P : Scene → Type 0) (m : Keeps P) where
       (λ _. rests v (shard_server d sh) course p)
       (λ x is. either course x is)
     where
-      twice : (x : ShardNode) → shard_at v.parties d sh ≡ Some x → P (scene (done v (shard_server d sh) (ByShard d sh (shard_started x.log) (shard_catches d new_shard_volatile))))
+      twice : (x : ShardNode) → shard_at v.parties d sh ≡ Some x → P (scene (after_deed v (shard_server d sh) (ByShard d sh (shard_started x.log) (shard_catches d new_shard_volatile))))
       twice x is =
           let same = server_is v.parties d sh x is in
           let there : ThereIs (scene v) d sh = is ∙ ap Some (sym same) in
@@ -261,7 +261,7 @@ module _ (P : Scene → Type 0) (m : Keeps P) where
             parties = record v.parties { shards = ss };
             sent = v.sent ++ envelopes (shard_server d sh) (shard_catches d new_shard_volatile).sends;
           })) (set_set v.parties.shards (shard_index v.parties.layout d sh) (shard_started (shard_in (scene v) d sh).log) (shard_after (shard_started (shard_in (scene v) d sh).log) (shard_catches d new_shard_volatile))) p3 in
-          subst (λ (y : ShardNode). P (scene (done v (shard_server d sh) (ByShard d sh (shard_started y.log) (shard_catches d new_shard_volatile))))) same p4
+          subst (λ (y : ShardNode). P (scene (after_deed v (shard_server d sh) (ByShard d sh (shard_started y.log) (shard_catches d new_shard_volatile))))) same p4
 
       either : (course : Course) (x : ShardNode) → shard_at v.parties d sh ≡ Some x → Q v (shard_server d sh) course (ByShard d sh (shard_started x.log) (shard_catches d new_shard_volatile))
       either Goes x is = twice x is
@@ -316,30 +316,30 @@ module _ (P : Scene → Type 0) (m : Keeps P) where
 
   begin_keeps : (w : World) (t : ℕ) (course : Course) → wrong w (Begin t) ≡ None → P (scene w) → P (scene (step w (Begin t) course))
   begin_keeps w t course ok p =
-      rests (begun w (Begin t)) (client_of t) course
+      rests (at_deed w (Begin t)) (client_of t) course
       (on_cond (λ o. o ≡ None → P (joined_by (scene w) t)) (is_begun w.parties t) (Some (BegunTwice t)) None
       (λ _ h. never _ (sym h))
       (λ not_begun _. m.begins (scene w) t not_begun p) ok)
 
   pub step_keeps : (w : World) (e : Event) (course : Course) → wrong w e ≡ None → P (scene w) → P (scene (step w e course))
   step_keeps w (Begin t) course ok p = begin_keeps w t course ok p
-  step_keeps w (Read t k) course ok p = client_does_keeps (begun w (Read t k)) course t (Reads k) (λ x. tt) p
-  step_keeps w (Write t k value) course ok p = client_does_keeps (begun w (Write t k value)) course t (Writes k value) (λ x. tt) p
-  step_keeps w (Commit t) course ok p = client_does_keeps (begun w (Commit t)) course t Commits (λ x. tt) p
-  step_keeps w (Cancel t k) course ok p = client_does_keeps (begun w (Cancel t k)) course t (Cancels k) (λ x. tt) p
-  step_keeps w (Retry t) course ok p = client_does_keeps (begun w (Retry t)) course t Retries (λ x. tt) p
-  step_keeps w (Vanish t) course ok p = client_does_keeps (begun w (Vanish t)) course t Vanishes (λ x. tt) p
-  step_keeps w (Take d t) course ok p = coord_does_keeps (begun w (Take d t)) course d (Takes t) tt p
-  step_keeps w (Catch node) course ok p = catch_keeps (begun w (Catch node)) course node p
+  step_keeps w (Read t k) course ok p = client_does_keeps (at_deed w (Read t k)) course t (Reads k) (λ x. tt) p
+  step_keeps w (Write t k value) course ok p = client_does_keeps (at_deed w (Write t k value)) course t (Writes k value) (λ x. tt) p
+  step_keeps w (Commit t) course ok p = client_does_keeps (at_deed w (Commit t)) course t Commits (λ x. tt) p
+  step_keeps w (Cancel t k) course ok p = client_does_keeps (at_deed w (Cancel t k)) course t (Cancels k) (λ x. tt) p
+  step_keeps w (Retry t) course ok p = client_does_keeps (at_deed w (Retry t)) course t Retries (λ x. tt) p
+  step_keeps w (Vanish t) course ok p = client_does_keeps (at_deed w (Vanish t)) course t Vanishes (λ x. tt) p
+  step_keeps w (Take d t) course ok p = coord_does_keeps (at_deed w (Take d t)) course d (Takes t) tt p
+  step_keeps w (Catch node) course ok p = catch_keeps (at_deed w (Catch node)) course node p
   step_keeps w (Deliver n) course ok p = go (message w.sent n) refl
     where
-      go : (o : Option Envelope) → message w.sent n ≡ o → Q (begun w (Deliver n)) (maybe o (client_of 0) (λ e. e.to)) course (maybe o Idle (λ e. received w.parties e e.to))
-      go None is = rests (begun w (Deliver n)) (client_of 0) course p
-      go (Some e) is = comes (begun w (Deliver n)) course e e.to (message_in w.sent n e is) p
-  step_keeps w (Lose n) course ok p = rests (begun w (Lose n)) (client_of 0) course p
-  step_keeps w (Crash node) course ok p = stop_keeps (begun w (Crash node)) course node p
-  step_keeps w (CrashAt node k pick) course ok p = rests (begun w (CrashAt node k pick)) (Node node) course p
-  step_keeps w (Restart node) course ok p = restart_keeps (begun w (Restart node)) course node p
+      go : (o : Option Envelope) → message w.sent n ≡ o → Q (at_deed w (Deliver n)) (maybe o (client_of 0) (λ e. e.to)) course (maybe o Idle (λ e. received w.parties e e.to))
+      go None is = rests (at_deed w (Deliver n)) (client_of 0) course p
+      go (Some e) is = comes (at_deed w (Deliver n)) course e e.to (message_in w.sent n e is) p
+  step_keeps w (Lose n) course ok p = rests (at_deed w (Lose n)) (client_of 0) course p
+  step_keeps w (Crash node) course ok p = stop_keeps (at_deed w (Crash node)) course node p
+  step_keeps w (CrashAt node k pick) course ok p = rests (at_deed w (CrashAt node k pick)) (Node node) course p
+  step_keeps w (Restart node) course ok p = restart_keeps (at_deed w (Restart node)) course node p
 
   no_name : (o : Option Wrong) (b : Bool) → (is_none o && b) ≡ true → o ≡ None
   no_name None b e = refl

@@ -15,7 +15,7 @@ use Rattle.rc_record.specs.declared.record.Record.{Record}
 use Rattle.rc_record.specs.declared.record.Record.TheVariants.{Head, Prepared as PartPrepared, Finished, Promised, Accepted, Decided}
 use Rattle.rc_record.specs.ShardState.{ShardDurable, new_durable, settled, settled_new, settled_all, shard_applied}
 use Rattle.rc_protocol.specs.Messages.{shard_server}
-use Rattle.rc_protocol.specs.Shard.{ShardVolatile, ShardAct, test, concerns, cut_to_part, is_free, ignores_ask, on_prepare, unfinished, is_next_page, with_place, takes_page, shard_row}
+use Rattle.rc_protocol.specs.Shard.{ShardVolatile, ShardAct, test, concerns, cut_to_part, is_free, ignores_ask, on_prepare, unfinished, is_next_shard_page, with_shard_cursor, takes_page, shard_row}
 use Rattle.rc_protocol.specs.Nodes.{shard_replayed, applied, logged}
 use Rattle.rc_agreement.proofs.Cases.{on_cond, on_maybe, some_is}
 use Rattle.rc_agreement.proofs.Tables.{put_cases, in_map}
@@ -72,7 +72,7 @@ module _ (s : Scene) (d sh : ℕ) (h : Heard s) where
           (λ _ u p i. ⊎_elim (λ (e : (t, o) ≡ (u, p)). subst (λ (z : ℕ × Decision). FinishesAt s sh z.0 z.1) e (subst (λ n. FinishesAt s n t o) same x.3)) (λ n. absurd n) i)
       comes (CatchPage e place es) x =
           on_cond N (is_dc cl e) _ _
-          (λ _. on_cond N (is_next_page vol place es) _ _ (λ _. page_notes (with_place vol (place + length es)) (unfinished cl sh dur es) (unfinished_notes es x)) (λ _. tt))
+          (λ _. on_cond N (is_next_shard_page vol place es) _ _ (λ _. page_notes (with_shard_cursor vol (place + length es)) (unfinished cl sh dur es) (unfinished_notes es x)) (λ _. tt))
           (λ _. tt)
       comes _ x = tt
 

@@ -12,8 +12,8 @@ abbrev pub entries_of : List (List ℕ × Access) → List Entry
 entries_of es = map entry_of es
 
 -- the entry that is looked at
-abbrev pub seen : EntryRef → Entry
-seen e = record { key = e.key.now; version = e.version; write = option_copied e.write }
+abbrev pub entry_seen : EntryRef → Entry
+entry_seen e = record { key = e.key.now; version = e.version; write = option_copied e.write }
 
 -- the key is written, and no version comes after the one that was read
 abbrev pub wears_out : Entry → Bool

@@ -3,7 +3,7 @@ ghost use Rattle.std.specs.Prelude.{◌≡◌, ◌<◌, ◌↔◌, false, [], �
 ghost use Rattle.std.specs.List.{list_any};
 ghost use Rattle.indexmap.specs.IndexMap.{keys};
 ghost use Rattle.rc_ids.specs.Cluster.{shard_of};
-ghost use Rattle.rc_body.specs.Entries.{seen, wears_out};
+ghost use Rattle.rc_body.specs.Entries.{entry_seen, wears_out};
 ghost use Rattle.rc_body.specs.Bodies.{has_key, part as part_lem, touches as touches_lem, IsBody};
 ghost use Rattle.rc_body.specs.declared.fault.BodyFault.TheVariants.{TooManyKeys, KeyWornOut};
 
@@ -114,7 +114,7 @@ impl Body {
     /// The entry at a place, counted from 0.
     pub fn entry(&self, index: usize) -> EntryRef<'_>
         requires { index < length self.now }
-        ensures { slice_get self.now index ≡ Some (seen result) }
+        ensures { slice_get self.now index ≡ Some (entry_seen result) }
     {
         let (key, access) = self.entries.get_index(index).unwrap();
         EntryRef {

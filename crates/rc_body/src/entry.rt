@@ -1,6 +1,6 @@
 // One key of a transaction.
 ghost use Rattle.std.specs.Prelude.{◌≡◌, IfOk, IsTrue, ◌↔◌};
-ghost use Rattle.rc_body.specs.Entries.{seen, wears_out};
+ghost use Rattle.rc_body.specs.Entries.{entry_seen, wears_out};
 
 use rc_ids::{Key, NoMemory, Val, Version};
 
@@ -42,7 +42,7 @@ impl Entry {
 impl EntryRef<'_> {
     /// The entry, by itself.
     pub fn to_entry(&self) -> Result<Entry, NoMemory>
-        ensures { IfOk result (λ e. e ≡ seen self.now) }
+        ensures { IfOk result (λ e. e ≡ entry_seen self.now) }
     {
         let write = match self.write {
             Some(value) => Some(value.copy()?),

@@ -16,12 +16,12 @@ use Rattle.rc_report.specs.declared.line.Line.{Line}
 use Rattle.rc_report.specs.declared.line.Line.TheVariants.{Refused as RefusedLine}
 use Rattle.rc_runs.specs.declared.event.Event.{Event}
 use Rattle.rc_runs.specs.declared.event.Event.TheVariants.{Begin, Take}
-use Rattle.rc_protocol.specs.Messages.{Sends}
+use Rattle.rc_protocol.specs.Messages.{Posts}
 use Rattle.rc_protocol.specs.Client.{Client, ClientAct, new_client}
 use Rattle.rc_protocol.specs.Nodes.{CoordNode, ShardNode, coord_started, shard_started}
 use Rattle.rc_protocol.specs.Shard.{ShardDurable, ShardVolatile}
 use Rattle.rc_protocol.specs.Acts.{NodeCause, Came, Catches, Takes, ClientCause, coord_act, shard_act, client_act}
-use Rattle.rc_runs.specs.World.{World, Parties, Deed, ByClient, ByCoord, ByShard, CoordStops, ShardStops, kept_record, coord_at, envelopes, sends_of, lines_of, starts, actor, replaced, with_client, joined, moved, course_deed, step, printed}
+use Rattle.rc_runs.specs.World.{World, Parties, Deed, ByClient, ByCoord, ByShard, CoordStops, ShardStops, kept_record, coord_at, envelopes, sends_of, lines_of, restart_lines, actor, replaced, with_client, after_begin, parties_after, course_deed, step, printed}
 use Rattle.rc_runs.specs.Refusals.{Happening, is_event, after_event, run, lines_at, lines}
 use Rattle.rc_agreement.proofs.Cases.{nat_dec, some_is, never}
 use Rattle.rc_agreement.proofs.Tables.{in_left, in_right, put_cases, set_cases}
@@ -83,7 +83,7 @@ module _ (c : Layout) (w0 : World) (t : ℕ) where
     clear = ⊎_elim (λ k. inl (caused_on past h told more k)) (λ k. inr k) s.clear;
   }
 
-  joined_state : (past : List Happening) (told : List Line) (w : Parties) (sent : List Envelope) (e : Event) → State past told w sent → State past told (joined w e) sent
+  joined_state : (past : List Happening) (told : List Line) (w : Parties) (sent : List Envelope) (e : Event) → State past told w sent → State past told (after_begin w e) sent
   joined_state past told w sent (Begin u) s = record {
     layout = s.layout;
     counted = λ x is d i. ⊎_elim
@@ -104,19 +104,19 @@ module _ (c : Layout) (w0 : World) (t : ℕ) where
     abbrev N : List Line → Parties → List Envelope → Type 0
     N more = State (past ++ h ∷ []) (told ++ more)
 
-    client_next : (u : ℕ) (x : Client) (a : ClientAct) (k : ClientCause) → found nat_cmp w.clients u ≡ Some x → ClientRow w.layout u x k a → (from : Party) → N (starts h.0 ++ a.lines) w sent
-        → N (starts h.0 ++ a.lines) (with_client w u a.after) (sent ++ envelopes from a.sends)
+    client_next : (u : ℕ) (x : Client) (a : ClientAct) (k : ClientCause) → found nat_cmp w.clients u ≡ Some x → ClientRow w.layout u x k a → (from : Party) → N (restart_lines h.0 ++ a.lines) w sent
+        → N (restart_lines h.0 ++ a.lines) (with_client w u a.after) (sent ++ envelopes from a.sends)
     client_next u x a k is row from s = record { layout = s.layout; counted = counts; clear = ⊎_elim (λ q. inl q) (λ q. pushed q) s.clear }
       where
-        new : (t ≡ u) → (d : ℕ) → In d a.after.refusals → (reason : Reason) × In (RefusedLine t d reason) (told ++ (starts h.0 ++ a.lines))
+        new : (t ≡ u) → (d : ℕ) → In d a.after.refusals → (reason : Reason) × In (RefusedLine t d reason) (told ++ (restart_lines h.0 ++ a.lines))
         new same d i =
             ⊎_elim
             (λ (old : In d x.refusals). s.counted x (ap (λ (n : ℕ). found nat_cmp w.clients n) same ∙ is) d old)
             (λ (r : (reason : Reason) × In (RefusedLine u d reason) a.lines).
-            (r.0, in_right (RefusedLine t d r.0) told (starts h.0 ++ a.lines) (in_right (RefusedLine t d r.0) (starts h.0) a.lines (subst (λ (n : ℕ). In (RefusedLine n d r.0) a.lines) (sym same) r.1))))
+            (r.0, in_right (RefusedLine t d r.0) told (restart_lines h.0 ++ a.lines) (in_right (RefusedLine t d r.0) (restart_lines h.0) a.lines (subst (λ (n : ℕ). In (RefusedLine n d r.0) a.lines) (sym same) r.1))))
             (row.refusals d i)
 
-        counts : (y : Client) → found nat_cmp (replaced w.clients u a.after) t ≡ Some y → (d : ℕ) → In d y.refusals → (reason : Reason) × In (RefusedLine t d reason) (told ++ (starts h.0 ++ a.lines))
+        counts : (y : Client) → found nat_cmp (replaced w.clients u a.after) t ≡ Some y → (d : ℕ) → In d y.refusals → (reason : Reason) × In (RefusedLine t d reason) (told ++ (restart_lines h.0 ++ a.lines))
         counts y its d i =
             ⊎_elim
             (λ (same : (t ≡ u) × (found nat_cmp (replaced w.clients u a.after) t ≡ Some a.after)).
@@ -127,27 +127,27 @@ module _ (c : Layout) (w0 : World) (t : ℕ) where
         stays : Clear t w sent → (u ≡ t → is_quorum w.layout a.after.refusals ≡ true → ⊥) → Clear t (with_client w u a.after) (sent ++ envelopes from a.sends)
         stays q none = record { nodes = q.nodes; asked = more_asked t sent from a.sends q.asked (λ to m i. client_pushes w.layout u t a.after to m none (row.sends.each to m i)) }
 
-        enough : Clear t w sent → t ≡ u → (b : Bool) → is_quorum w.layout a.after.refusals ≡ b → Caused (past ++ h ∷ []) (told ++ (starts h.0 ++ a.lines)) ⊎ Clear t (with_client w u a.after) (sent ++ envelopes from a.sends)
+        enough : Clear t w sent → t ≡ u → (b : Bool) → is_quorum w.layout a.after.refusals ≡ b → Caused (past ++ h ∷ []) (told ++ (restart_lines h.0 ++ a.lines)) ⊎ Clear t (with_client w u a.after) (sent ++ envelopes from a.sends)
         enough q same true is_enough = inl (inr (record { dcs = a.after.refusals; enough = subst (λ (l : Layout). is_quorum l a.after.refusals ≡ true) s.layout is_enough; each = new same }))
         enough q same false too_few = inr (stays q (λ _ e. true≢false (sym e ∙ too_few)))
 
-        pushed : Clear t w sent → Caused (past ++ h ∷ []) (told ++ (starts h.0 ++ a.lines)) ⊎ Clear t (with_client w u a.after) (sent ++ envelopes from a.sends)
+        pushed : Clear t w sent → Caused (past ++ h ∷ []) (told ++ (restart_lines h.0 ++ a.lines)) ⊎ Clear t (with_client w u a.after) (sent ++ envelopes from a.sends)
         pushed q = ⊎_elim (λ (same : t ≡ u). enough q same (is_quorum w.layout a.after.refusals) refl) (λ (n : t ≡ u → ⊥). inr (stays q (λ e _. n (sym e)))) (nat_dec t u)
 
     -- the deed done by these parties, and its messages sent
     abbrev After : Deed → Parties → Type 0
-    After d y = State (past ++ h ∷ []) (told ++ (starts h.0 ++ lines_of d)) (moved y d) (sent ++ envelopes (actor sent h.0) (sends_of d))
+    After d y = State (past ++ h ∷ []) (told ++ (restart_lines h.0 ++ lines_of d)) (parties_after y d) (sent ++ envelopes (actor sent h.0) (sends_of d))
 
     abbrev Before : Deed → Type 0
-    Before d = State (past ++ h ∷ []) (told ++ (starts h.0 ++ lines_of d)) w sent
+    Before d = State (past ++ h ∷ []) (told ++ (restart_lines h.0 ++ lines_of d)) w sent
 
     -- with nothing sent
-    hushed : (d : Deed) → sends_of d ≡ [] → State (past ++ h ∷ []) (told ++ (starts h.0 ++ lines_of d)) (moved w d) sent → After d w
+    hushed : (d : Deed) → sends_of d ≡ [] → State (past ++ h ∷ []) (told ++ (restart_lines h.0 ++ lines_of d)) (parties_after w d) sent → After d w
     hushed d none s =
-        subst (λ (ms : Sends). State (past ++ h ∷ []) (told ++ (starts h.0 ++ lines_of d)) (moved w d) (sent ++ envelopes (actor sent h.0) ms)) (sym none)
-        (silent (past ++ h ∷ []) (told ++ (starts h.0 ++ lines_of d)) (moved w d) sent s)
+        subst (λ (ms : Posts). State (past ++ h ∷ []) (told ++ (restart_lines h.0 ++ lines_of d)) (parties_after w d) (sent ++ envelopes (actor sent h.0) ms)) (sym none)
+        (silent (past ++ h ∷ []) (told ++ (restart_lines h.0 ++ lines_of d)) (parties_after w d) sent s)
 
-    by_joined : (d : Deed) → joined w h.0 ≡ w → After d w → After d (joined w h.0)
+    by_joined : (d : Deed) → after_begin w h.0 ≡ w → After d w → After d (after_begin w h.0)
     by_joined d same s = subst (λ (y : Parties). After d y) (sym same) s
 
     coord_next : (d : ℕ) (x : CoordNode) (k : NodeCause) → coord_at w d ≡ Some x → CoordWhy sent h.0 d k
@@ -198,28 +198,28 @@ module _ (c : Layout) (w0 : World) (t : ℕ) where
         hushed (ShardStops d sh x kept) refl
         (record { layout = s.layout; counted = s.counted; clear = ⊎_elim (λ q. inl q) (λ (q : Clear t w sent). inr (record { nodes = q.nodes; asked = q.asked })) s.clear })
 
-    moves_on : (d : Deed) → Move w sent h.0 h.1 d → Before d → After d (joined w h.0)
+    moves_on : (d : Deed) → Move w sent h.0 h.1 d → Before d → After d (after_begin w h.0)
     moves_on _ Rests s =
-        silent (past ++ h ∷ []) (told ++ (starts h.0 ++ [])) (joined w h.0) sent (joined_state (past ++ h ∷ []) (told ++ (starts h.0 ++ [])) w sent h.0 s)
+        silent (past ++ h ∷ []) (told ++ (restart_lines h.0 ++ [])) (after_begin w h.0) sent (joined_state (past ++ h ∷ []) (told ++ (restart_lines h.0 ++ [])) w sent h.0 s)
     moves_on _ (ClientActs u x k is why) s =
         by_joined (ByClient u (client_act w.layout u x k)) (client_joins w sent h.0 u k why)
         (client_next u x (client_act w.layout u x k) k is (client_row_of w.layout u x k) (actor sent h.0) s)
     moves_on _ (CoordActs d x k there why) s = by_joined (ByCoord d x (coord_act w.layout d x.durable x.volatile k)) (coord_joins w sent h.0 d k why) (coord_next d x k there why s)
     moves_on _ (CoordWakes d x there why) s =
-        by_joined (ByCoord d (coord_started x.log) (coord_act w.layout d (coord_started x.log).durable (coord_started x.log).volatile Catches)) (ap (λ (e : Event). joined w e) why) (wakes_next d x there s)
+        by_joined (ByCoord d (coord_started x.log) (coord_act w.layout d (coord_started x.log).durable (coord_started x.log).volatile Catches)) (ap (λ (e : Event). after_begin w e) why) (wakes_next d x there s)
     moves_on _ (CoordHalts d x k kept r there why logs course same) s =
         by_joined (CoordStops d x (kept_record kept r)) (coord_joins w sent h.0 d k why)
         (halts_next d x (kept_record kept r) there (λ q b e. no_vote t w sent h.0 q d x k there why b (logs ∙ ap Some (kept_is kept r (Accepted t b Abort) e))) s)
-    moves_on _ (CoordCrashes d x there why) s = by_joined (CoordStops d x None) (ap (λ (e : Event). joined w e) why) (halts_next d x None there (λ q b e. never (Accepted t b Abort) e) s)
+    moves_on _ (CoordCrashes d x there why) s = by_joined (CoordStops d x None) (ap (λ (e : Event). after_begin w e) why) (halts_next d x None there (λ q b e. never (Accepted t b Abort) e) s)
     moves_on _ (ShardActs d sh x k there why) s = by_joined (ByShard d sh x (shard_act w.layout d sh x.durable x.volatile k)) (shard_joins w sent h.0 d sh k why) (shard_next d sh x k s)
     moves_on _ (ShardWakes d sh x there why) s =
-        by_joined (ByShard d sh (shard_started x.log) (shard_act w.layout d sh (shard_started x.log).durable (shard_started x.log).volatile Catches)) (ap (λ (e : Event). joined w e) why)
+        by_joined (ByShard d sh (shard_started x.log) (shard_act w.layout d sh (shard_started x.log).durable (shard_started x.log).volatile Catches)) (ap (λ (e : Event). after_begin w e) why)
         (shard_next d sh (shard_started x.log) Catches s)
     moves_on _ (ShardHalts d sh x k kept r there why logs course same) s = by_joined (ShardStops d sh x (kept_record kept r)) (shard_joins w sent h.0 d sh k why) (servers_next d sh x (kept_record kept r) s)
-    moves_on _ (ShardCrashes d sh x there why) s = by_joined (ShardStops d sh x None) (ap (λ (e : Event). joined w e) why) (servers_next d sh x None s)
+    moves_on _ (ShardCrashes d sh x there why) s = by_joined (ShardStops d sh x None) (ap (λ (e : Event). after_begin w e) why) (servers_next d sh x None s)
 
-    next : (d : Deed) → Move w sent h.0 h.1 d → State past told w sent → After d (joined w h.0)
-    next d m s = moves_on d m (state_on past h told (starts h.0 ++ lines_of d) w sent s)
+    next : (d : Deed) → Move w sent h.0 h.1 d → State past told w sent → After d (after_begin w h.0)
+    next d m s = moves_on d m (state_on past h told (restart_lines h.0 ++ lines_of d) w sent s)
 
   -- THE RUN
   abbrev At : List Happening → List Line → World → Type 0

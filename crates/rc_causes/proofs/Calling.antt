@@ -6,7 +6,7 @@ use Rattle.rc_ids.specs.Tables.{maybe}
 use Rattle.rc_disk.specs.declared.power.Cause.{Cause}
 use Rattle.rc_disk.specs.declared.power.Cause.TheVariants.{ByList, ByCut, WhileOff}
 use Rattle.rc_protocol.specs.Messages.{or_else}
-use Rattle.rc_runs.specs.Devices.{Device, Fate, Made, Full, FailsAt, is_number, listed, falls_now, next_fails, nearer, called, at_place, in_a_row, place_after, is_too_long, is_kept, appends, appended}
+use Rattle.rc_runs.specs.Devices.{Device, Fate, Made, Full, FailsAt, is_number, listed, falls_now, next_fails, nearer, called, at_offset, in_a_row, offset_after, is_too_long, is_kept, appends, appended}
 use Rattle.rc_agreement.proofs.Cases.{on_cond, on_maybe, never, some_is}
 use Rattle.rc_causes.specs.Calls.{Fails, MakesCalls, AppendsAreTold}
 
@@ -78,11 +78,11 @@ row d n (suc more) x b =
     (e, omega arith, omega arith, fails_next d n x cause b is))
 
 -- the place of a frame that is kept changes no call
-told : (d : Device) (len : ℕ) (fate : Fate) (y : Device) (place : ℕ) → MakesCalls d len fate y → MakesCalls d len fate (cond (is_kept fate) (at_place y place) y)
+told : (d : Device) (len : ℕ) (fate : Fate) (y : Device) (place : ℕ) → MakesCalls d len fate y → MakesCalls d len fate (cond (is_kept fate) (at_offset y place) y)
 told d len Made y place h = h
 told d len Full y place h = h
 told d len (FailsAt at cause) y place h =
-    on_cond (λ (z : Device). MakesCalls d len (FailsAt at cause) z) (is_kept (FailsAt at cause)) (at_place y place) y (λ _. h) (λ _. h)
+    on_cond (λ (z : Device). MakesCalls d len (FailsAt at cause) z) (is_kept (FailsAt at cause)) (at_offset y place) y (λ _. h) (λ _. h)
 
 made_calls : (d : Device) (len : ℕ) (fate : Fate) (y : Device) → Row d 4 fate y → MakesCalls d len fate y
 made_calls d len Made y h = h
@@ -97,7 +97,7 @@ at_first : (d : Device) → Behind d 0 d
 at_first d = record { calls = let n : ℕ = d.calls in let e : n ≡ n + 0 = omega arith in e; failing = refl; cut = no_calls d.cut }
 
 pub appends_are_told : (d : Device) → AppendsAreTold d
-appends_are_told d len = told d len (appends d len).0 (appends d len).1 (place_after d.place len) whole
+appends_are_told d len = told d len (appends d len).0 (appends d len).1 (offset_after d.offset len) whole
   where
     whole : MakesCalls d len (appends d len).0 (appends d len).1
     whole =

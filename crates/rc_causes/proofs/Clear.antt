@@ -11,8 +11,8 @@ use Rattle.rc_msg.specs.declared.msg.Msg.TheVariants.{Propose, Abandon}
 use Rattle.rc_record.specs.declared.record.Record.{Record}
 use Rattle.rc_record.specs.declared.record.Record.TheVariants.{Accepted}
 use Rattle.rc_runs.specs.declared.event.Event.{Event}
-use Rattle.rc_protocol.specs.Messages.{Sends, coordinator}
-use Rattle.rc_protocol.specs.Coordinator.{TakeOver, do_catch, new_volatile as new_coord_volatile}
+use Rattle.rc_protocol.specs.Messages.{Posts, coordinator}
+use Rattle.rc_protocol.specs.Coordinator.{TakeoverState, do_catch, new_volatile as new_coord_volatile}
 use Rattle.rc_protocol.specs.Nodes.{CoordNode, logged, coord_after, coord_started, coord_stopped}
 use Rattle.rc_protocol.specs.Acts.{NodeCause, Came, Catches, Takes, coord_act}
 use Rattle.rc_runs.specs.World.{Parties, coord_at, envelopes, with_coord}
@@ -33,7 +33,7 @@ Pushes t _ = ⊥
 
 -- the coordinator has no take-over of t, and has not voted to abort it
 pub record NodeClear (t : ℕ) (x : CoordNode) : Type 0 where
-  pub takes : (n : TakeOver) → In (t, n) x.volatile.takeovers → ⊥
+  pub takes : (n : TakeoverState) → In (t, n) x.volatile.takeovers → ⊥
   pub votes : (b : ℕ) → In (Accepted t b Abort) x.log → ⊥
 
 pub record Clear (t : ℕ) (w : Parties) (sent : List Envelope) : Type 0 where
@@ -52,7 +52,7 @@ set_clear t w d x y r there all new e z is =
     (nat_dec e d)
 
 -- more messages, none of which pushes t
-pub more_asked : (t : ℕ) (sent : List Envelope) (from : Party) (ms : Sends) → ((e : Envelope) → In e sent → Pushes t e.msg → ⊥) → ((to : Party) (m : Msg) → In (to, m) ms → Pushes t m → ⊥)
+pub more_asked : (t : ℕ) (sent : List Envelope) (from : Party) (ms : Posts) → ((e : Envelope) → In e sent → Pushes t e.msg → ⊥) → ((to : Party) (m : Msg) → In (to, m) ms → Pushes t m → ⊥)
     → (e : Envelope) → In e (sent ++ envelopes from ms) → Pushes t e.msg → ⊥
 more_asked t sent from ms old new e i = ⊎_elim (λ k. old e k) (λ k. new e.to e.msg k.0) (in_sent sent from ms e i)
 

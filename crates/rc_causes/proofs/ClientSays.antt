@@ -13,9 +13,9 @@ use Rattle.rc_msg.specs.declared.msg.Msg.{Msg}
 use Rattle.rc_msg.specs.declared.msg.Msg.TheVariants.{ReadAsk, ReadCancel, Granted, Propose, Prepared, Voted, Refused, Decided, Abandon}
 use Rattle.rc_report.specs.declared.line.Line.{Line}
 use Rattle.rc_report.specs.declared.line.Line.TheVariants.{Read as ReadLine, Own, Refused as RefusedLine, Learned}
-use Rattle.rc_protocol.specs.Messages.{Sends, coordinator, shard_server, one, to_all}
+use Rattle.rc_protocol.specs.Messages.{Posts, coordinator, shard_server, one, to_all}
 use Rattle.rc_protocol.specs.Coordinator.{is_decided_by}
-use Rattle.rc_protocol.specs.Client.{Client, ClientAct, ClientRefusal, KeyWornOut, Slot, KeyRead, Complete, Grant, Proposed, is_over, is_committing, is_proposed, reads_on, client_stays, client_says, in_phase, with_slots, is_worn, body_of, proposes, slot_of, slot_set, asks, asks_all, asks_new, asks_rest, asks_again, unread_keys, waiting_keys, reads_again, do_read, is_under_way, waits_for_read, reads_begun, do_commit, drops_read, do_cancel, do_retry, best_grant, grants_of, granted_by, cancels, cancel_to, completed, read_line, after_read, unless_refused, with_grant, prints_of, takes_grant, wants_grant, on_granted, with_vote, learns, gives_up, counts_refusal, on_refused, client_row}
+use Rattle.rc_protocol.specs.Client.{Client, ClientAct, ClientRefusal, KeyWornOut, Slot, KeyRead, Complete, Grant, Proposed, is_over, is_committing, is_proposed, reads_on, client_stays, client_says, in_phase, with_slots, is_worn, body_of, proposes, slot_of, slot_set, asks, asks_all, asks_new, asks_rest, asks_again, unread_keys, waiting_keys, reads_again, do_read, is_under_way, waits_for_read, reads_begun, do_commit, drops_read, do_cancel, do_retry, best_grant, grants_of, granted_by, cancels, cancel_to, completed, read_line, after_read, unless_refused, with_grant, prints_of, takes_grant, wants_grant, on_granted, with_vote, client_learns, gives_up, counts_refusal, on_refused, client_row}
 use Rattle.rc_protocol.specs.Acts.{ClientCause, Hears, Reads, Writes, Commits, Cancels, Retries, Vanishes, client_by_row, client_act, refusal}
 use Rattle.rc_agreement.proofs.Cases.{on_cond, on_maybe, and_left, and_right}
 use Rattle.rc_agreement.proofs.Tables.{in_added}
@@ -83,7 +83,7 @@ module _ (c : Layout) (t : ℕ) (x : Client) (k : ClientCause) where
   proposal_dull : (y : Client) → Dulls (to_all c (Propose t 0 (Commit (body_of y.slots))))
   proposal_dull y = to_coords Dull c (Propose t 0 (Commit (body_of y.slots))) (λ d. tt)
 
-  proposes_row : (y : Client) → y.refusals ≡ x.refusals → (ms : Sends) (ls : List Line) → Dulls ms → Commons ls → R (unless_refused x (after_read ms ls (proposes c t y)))
+  proposes_row : (y : Client) → y.refusals ≡ x.refusals → (ms : Posts) (ls : List Line) → Dulls ms → Commons ls → R (unless_refused x (after_read ms ls (proposes c t y)))
   proposes_row y same ms ls q l =
       on_cond (λ a. R (unless_refused x (after_read ms ls a))) (is_worn y.slots) _ _
       (λ _. plain _ refl (to_none Dull) no_lines) (λ _. plain _ same (to_both Dull ms _ q (proposal_dull y)) l)
@@ -142,8 +142,8 @@ module _ (c : Layout) (t : ℕ) (x : Client) (k : ClientCause) where
       (λ _. plain _ refl (proposal_dull x) no_lines))
       (λ _. on_cond R (reads_on x.phase) _ _ (λ _. plain _ refl (again_dull (waiting_keys x.slots)) no_lines) (λ _. still))
 
-  learns_row : (y : Client) → y.refusals ≡ x.refusals → (o : Decision) → R (learns t y o)
-  learns_row y same o = plain (learns t y o) same (to_none Dull) (one_line (Learned t (outcome_of o)) tt)
+  learns_row : (y : Client) → y.refusals ≡ x.refusals → (o : Decision) → R (client_learns t y o)
+  learns_row y same o = plain (client_learns t y o) same (to_none Dull) (one_line (Learned t (outcome_of o)) tt)
 
   refused_row : (b d : ℕ) (reason : Reason) → k ≡ Hears (Refused t b d reason) → R (on_refused c t x b d reason)
   refused_row b d reason is =

@@ -16,8 +16,8 @@ use Rattle.rc_msg.specs.declared.msg.Msg.{Msg}
 use Rattle.rc_msg.specs.declared.msg.Msg.TheVariants.{Propose, Prepare, Prepared, Voted, Refused, Ask, Promise, Decided, Finish, Abandon, CatchAsk, CatchPage}
 use Rattle.rc_record.specs.declared.record.Record.{Record}
 use Rattle.rc_record.specs.declared.record.Record.TheVariants.{Promised, Accepted}
-use Rattle.rc_protocol.specs.Messages.{Sends, coordinator, shard_server, client_of, one, to_each, to_all, most_entries}
-use Rattle.rc_protocol.specs.Coordinator.{CoordDurable, CoordVolatile, CoordAct, Gather, TakeOver, promise_of, outcome_of, coord_stays, coord_says, if_decided, proposer, vote, accepts, finish_to, finishes, forgotten, learns, opening, takes_over, has_all, with_gather, prepare_to, gathers_on, gather_at, takes_proposal, refuses, accepted_at, on_propose, waiting_gather, with_yes, said_yes, on_prepared, promise_record, promises_at, on_ask, hears, chooses, waiting_takeover, with_takeover, proposed, goes_on, on_promise, with_vote, tally_of, is_decided_by, on_voted, on_decided, on_abandon, do_catch, page_from, place_of, is_next_page, with_place, undecided, forgotten_all, finishes_all, outcomes_record, asks_next, takes_page, on_catch_page, coord_row}
+use Rattle.rc_protocol.specs.Messages.{Posts, coordinator, shard_server, client_of, one, to_each, to_all, most_entries}
+use Rattle.rc_protocol.specs.Coordinator.{CoordDurable, CoordVolatile, CoordAct, GatherState, TakeoverState, promise_of, outcome_of, coord_stays, coord_says, if_decided, proposer, vote, accepts, finish_to, finish_posts, forgotten, coord_learns, opening, takes_over, has_all, with_gather, prepare_to, gathers_on, gather_at, takes_proposal, refuses, accepted_at, on_propose, waiting_gather, with_yes, said_yes, on_prepared, promise_record, promises_at, on_ask, hears, chooses, waiting_takeover, with_takeover, proposed, proposes_or_waits, on_promise, with_vote, tally_of, is_decided_by, on_voted, on_decided, on_abandon, do_catch, page_from, cursor_of, is_next_coord_page, with_coord_cursor, undecided, forgotten_all, finish_all_posts, outcomes_record, asks_next_coord_page, takes_page, on_catch_page, coord_row}
 use Rattle.rc_protocol.specs.Acts.{NodeCause, Came, Catches, Takes, coord_act}
 use Rattle.rc_agreement.proofs.Cases.{on_cond, on_maybe, never}
 use Rattle.rc_agreement.proofs.Tables.{in_put, in_without, found_in}
@@ -32,7 +32,7 @@ RefusedFor s k u b reason =
 
 abbrev pub CoordSay : ℕ → CoordDurable → CoordVolatile → NodeCause → Party → Msg → Type 0
 CoordSay d s v k to (Refused u b e reason) = (e ≡ d) × RefusedFor s k u b reason
-CoordSay d s v k to (Propose u b Abort) = (n : TakeOver) × In (u, n) v.takeovers
+CoordSay d s v k to (Propose u b Abort) = (n : TakeoverState) × In (u, n) v.takeovers
 CoordSay d s v k to m = Dull to m
 
 -- the cause opens a take-over of u
@@ -47,17 +47,17 @@ Aborts k _ = Unit {0}
 
 pub record CoordRow (d : ℕ) (s : CoordDurable) (v : CoordVolatile) (k : NodeCause) (a : CoordAct) : Type 0 where
   pub sends : EachTo (CoordSay d s v k) a.sends
-  pub takes : (u : ℕ) (n : TakeOver) → In (u, n) a.after.takeovers → ((m : TakeOver) × In (u, m) v.takeovers) ⊎ OpensFor k u
+  pub takes : (u : ℕ) (n : TakeoverState) → In (u, n) a.after.takeovers → ((m : TakeoverState) × In (u, m) v.takeovers) ⊎ OpensFor k u
   pub votes : Aborts k a.logs
 
 -- to catch up it only asks
 pub catch_dull : (c : Layout) (d : ℕ) (v : CoordVolatile) → Dulls (do_catch c d v).sends
-catch_dull c d v = to_many Dull c.dcs _ (λ e. on_cond Dulls (e == d) _ _ (λ _. to_none Dull) (λ _. to_one Dull (coordinator e) (CatchAsk (place_of v e)) tt))
+catch_dull c d v = to_many Dull c.dcs _ (λ e. on_cond Dulls (e == d) _ _ (λ _. to_none Dull) (λ _. to_one Dull (coordinator e) (CatchAsk (cursor_of v e)) tt))
 
 module _ (c : Layout) (d : ℕ) (s : CoordDurable) (v : CoordVolatile) where
   -- the take-overs are among those of v
   record Fewer (after : CoordVolatile) : Type 0 where
-    each : (u : ℕ) (n : TakeOver) → In (u, n) after.takeovers → In (u, n) v.takeovers
+    each : (u : ℕ) (n : TakeoverState) → In (u, n) after.takeovers → In (u, n) v.takeovers
 
   all_same : Fewer v
   all_same = record { each = λ u n i. i }
@@ -71,7 +71,7 @@ module _ (c : Layout) (d : ℕ) (s : CoordDurable) (v : CoordVolatile) where
     dull_say to (Propose u b Abort) h = absurd h
     dull_say to m h = h
 
-    dulls : (ms : Sends) → Dulls ms → EachTo (CoordSay d s v k) ms
+    dulls : (ms : Posts) → Dulls ms → EachTo (CoordSay d s v k) ms
     dulls ms q = record { each = λ to m i. dull_say to m (q.each to m i) }
 
     plain : (a : CoordAct) → Dulls a.sends → Fewer a.after → Aborts k a.logs → R a
@@ -80,7 +80,7 @@ module _ (c : Layout) (d : ℕ) (s : CoordDurable) (v : CoordVolatile) where
     idle : R (coord_stays v)
     idle = plain (coord_stays v) (to_none Dull) all_same tt
 
-    says : (ms : Sends) → Dulls ms → R (coord_says v ms)
+    says : (ms : Posts) → Dulls ms → R (coord_says v ms)
     says ms q = plain (coord_says v ms) q all_same tt
 
     says_one : (to : Party) (m : Msg) → Dull to m → R (coord_says v (one to m))
@@ -89,14 +89,14 @@ module _ (c : Layout) (d : ℕ) (s : CoordDurable) (v : CoordVolatile) where
     vote_dull : (u b : ℕ) (o : Decision) → Dulls (vote c d u b o)
     vote_dull u b o = to_both Dull (to_all c (Voted u b d o)) (one (client_of u) (Voted u b d o)) (to_coords Dull c (Voted u b d o) (λ e. tt)) (to_one Dull (client_of u) (Voted u b d o) tt)
 
-    finish_dull : (u : ℕ) (o : Decision) → Dulls (finishes c d u o)
+    finish_dull : (u : ℕ) (o : Decision) → Dulls (finish_posts c d u o)
     finish_dull u o = to_many Dull c.shards (finish_to c d u o) (λ x. to_shard x o)
       where
         to_shard : (x : ℕ) (o : Decision) → Dulls (finish_to c d u o x)
         to_shard x Abort = to_one Dull (shard_server d x) (Finish u Abort) tt
         to_shard x (Commit body) = on_cond Dulls (touches c body x) _ _ (λ _. to_one Dull (shard_server d x) (Finish u (Commit (part c x body))) tt) (λ _. to_none Dull)
 
-    with_one : (u : ℕ) (g : Gather) → Fewer (with_gather v u g)
+    with_one : (u : ℕ) (g : GatherState) → Fewer (with_gather v u g)
     with_one u g = record { each = λ w n i. i }
 
     refuses_row : (after : CoordVolatile) → Fewer after → (u b : ℕ) (reason : Reason) → RefusedFor s k u b reason → R (refuses c d after u b reason)
@@ -106,7 +106,7 @@ module _ (c : Layout) (d : ℕ) (s : CoordDurable) (v : CoordVolatile) where
     promised : (u b : ℕ) → nat_lt b (promise_of s.promises u) ≡ true → RefusedFor s k u b (PromisedHigher (promise_of s.promises u))
     promised u b less = inl (refl, ltb-true b (promise_of s.promises u) less)
 
-    gathers_row : (u : ℕ) (g : Gather) → R (gathers_on c d v u g)
+    gathers_row : (u : ℕ) (g : GatherState) → R (gathers_on c d v u g)
     gathers_row u g =
         on_cond R (has_all c g) _ _
         (λ _. plain (accepts c d (with_gather v u g) u g.ballot (Commit g.body)) (vote_dull u g.ballot (Commit g.body)) (with_one u g) tt)
@@ -128,7 +128,7 @@ module _ (c : Layout) (d : ℕ) (s : CoordDurable) (v : CoordVolatile) where
         (λ _. on_maybe R (accepted_at (found nat_cmp s.accepted u) b) _ _ (λ _. proposes_row from u b o is) (λ old _. says _ (vote_dull u b old))))
         (λ out _. says_one (proposer c u b) (Decided u out) tt)
 
-    yes_row : (u : ℕ) (g : Gather) → R (said_yes c d s v u g)
+    yes_row : (u : ℕ) (g : GatherState) → R (said_yes c d s v u g)
     yes_row u g =
         on_cond R (has_all c g) _ _
         (λ _. on_cond R (nat_lt g.ballot (promise_of s.promises u)) _ _
@@ -145,7 +145,7 @@ module _ (c : Layout) (d : ℕ) (s : CoordDurable) (v : CoordVolatile) where
     forgets : (after : CoordVolatile) (u : ℕ) → Fewer after → Fewer (forgotten after u)
     forgets after u f = record { each = λ w n i. f.each w n (in_without u after.takeovers (w, n) i) }
 
-    learns_row : (u : ℕ) (o : Decision) → R (learns c d v u o)
+    learns_row : (u : ℕ) (o : Decision) → R (coord_learns c d v u o)
     learns_row u o = plain _ (finish_dull u o) (forgets v u all_same) tt
 
     voted_row : (u b from : ℕ) (o : Decision) → R (on_voted c d s v u b from o)
@@ -165,7 +165,7 @@ module _ (c : Layout) (d : ℕ) (s : CoordDurable) (v : CoordVolatile) where
     forgets_all after [] f = f
     forgets_all after (e ∷ es) f = forgets_all (forgotten after e.0) es (forgets after e.0 f)
 
-    finish_all_dull : (es : List (ℕ × Decision)) → Dulls (finishes_all c d es)
+    finish_all_dull : (es : List (ℕ × Decision)) → Dulls (finish_all_posts c d es)
     finish_all_dull [] = to_none Dull
     finish_all_dull (e ∷ es) = to_both Dull _ _ (finish_dull e.0 e.1) (finish_all_dull es)
 
@@ -176,11 +176,11 @@ module _ (c : Layout) (d : ℕ) (s : CoordDurable) (v : CoordVolatile) where
     page_row : (from place : ℕ) (es : List (ℕ × Decision)) → R (on_catch_page c d s v from place es)
     page_row from place es =
         let new : List (ℕ × Decision) = undecided s.outcomes es in
-        let after : CoordVolatile = with_place v from (place + length es) in
-        let more : Sends = asks_next (coordinator from) place es in
+        let after : CoordVolatile = with_coord_cursor v from (place + length es) in
+        let more : Posts = asks_next_coord_page (coordinator from) place es in
         let dull : Dulls more = on_cond Dulls (length es == most_entries) _ _ (λ _. to_one Dull (coordinator from) (CatchAsk (place + length es)) tt) (λ _. to_none Dull) in
-        on_cond R (is_next_page d v from place es) _ _
-        (λ _. plain (takes_page c d after new more) (to_both Dull (finishes_all c d new) more (finish_all_dull new) dull) (forgets_all after new (record { each = λ w n i. i })) (no_abort new))
+        on_cond R (is_next_coord_page d v from place es) _ _
+        (λ _. plain (takes_page c d after new more) (to_both Dull (finish_all_posts c d new) more (finish_all_dull new) dull) (forgets_all after new (record { each = λ w n i. i })) (no_abort new))
         (λ _. idle)
 
     -- PROMISES
@@ -201,11 +201,11 @@ module _ (c : Layout) (d : ℕ) (s : CoordDurable) (v : CoordVolatile) where
 
     -- TAKE-OVERS
     -- one more, or another of the same transaction
-    takes_put : (u : ℕ) (new : TakeOver) → ((m : TakeOver) × In (u, m) v.takeovers) ⊎ OpensFor k u
-        → (w : ℕ) (n : TakeOver) → In (w, n) (put nat_cmp v.takeovers u new) → ((m : TakeOver) × In (w, m) v.takeovers) ⊎ OpensFor k w
+    takes_put : (u : ℕ) (new : TakeoverState) → ((m : TakeoverState) × In (u, m) v.takeovers) ⊎ OpensFor k u
+        → (w : ℕ) (n : TakeoverState) → In (w, n) (put nat_cmp v.takeovers u new) → ((m : TakeoverState) × In (w, m) v.takeovers) ⊎ OpensFor k w
     takes_put u new h w n i =
         ⊎_elim
-        (λ (e : (u, new) ≡ (w, n)). subst (λ (y : ℕ × TakeOver). ((m : TakeOver) × In (y.0, m) v.takeovers) ⊎ OpensFor k y.0) e h)
+        (λ (e : (u, new) ≡ (w, n)). subst (λ (y : ℕ × TakeoverState). ((m : TakeoverState) × In (y.0, m) v.takeovers) ⊎ OpensFor k y.0) e h)
         (λ (old : In (w, n) v.takeovers). inl (n, old))
         (in_put u new v.takeovers (w, n) i)
 
@@ -214,7 +214,7 @@ module _ (c : Layout) (d : ℕ) (s : CoordDurable) (v : CoordVolatile) where
         on_maybe R (next_ballot c d (promise_of s.promises u)) _ _ (λ _. plain _ (to_none Dull) all_same tt)
         (λ b _. record { sends = dulls _ (to_coords Dull c (Ask u b) (λ e. tt)); takes = takes_put u (opening b eager) (inr h); votes = tt })
 
-    goes_row : (u : ℕ) (old new : TakeOver) → In (u, old) v.takeovers → R (goes_on c v u new)
+    goes_row : (u : ℕ) (old new : TakeoverState) → In (u, old) v.takeovers → R (proposes_or_waits c v u new)
     goes_row u old new i =
         on_maybe R (chooses c new) _ _
         (λ _. record { sends = to_none (CoordSay d s v k); takes = takes_put u new (inl (old, i)); votes = tt })
@@ -224,7 +224,7 @@ module _ (c : Layout) (d : ℕ) (s : CoordDurable) (v : CoordVolatile) where
         may e Abort = (old, i)
         may e (Commit body) = tt
 
-    waiting_is : (u b from : ℕ) (n : TakeOver) → waiting_takeover s v u b from ≡ Some n → In (u, n) v.takeovers
+    waiting_is : (u b from : ℕ) (n : TakeoverState) → waiting_takeover s v u b from ≡ Some n → In (u, n) v.takeovers
     waiting_is u b from n =
         on_maybe (λ o. o ≡ Some n → In (u, n) v.takeovers) (outcome_of s.outcomes u) _ _
         (λ _. on_maybe (λ o. o ≡ Some n → In (u, n) v.takeovers) (found nat_cmp v.takeovers u) _ _ (λ _ e. never n e)

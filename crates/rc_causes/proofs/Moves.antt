@@ -15,7 +15,7 @@ use Rattle.rc_protocol.specs.Messages.{coordinator, shard_server, client_of}
 use Rattle.rc_protocol.specs.Client.{Client}
 use Rattle.rc_protocol.specs.Acts.{NodeCause, Came, Catches, Takes, coord_act, shard_act, ClientCause, Hears, Reads, Writes, Commits, Cancels, Retries, Vanishes, client_act}
 use Rattle.rc_protocol.specs.Nodes.{CoordNode, ShardNode, coord_started, shard_started}
-use Rattle.rc_runs.specs.World.{Parties, Deed, Idle, ByClient, ByCoord, ByShard, CoordStops, ShardStops, Course, Goes, Stops, kept_record, coord_at, shard_at, message, received, coord_does, shard_does, client_does, catches, stops, restarts, deed, along, joined, actor}
+use Rattle.rc_runs.specs.World.{Parties, Deed, Idle, ByClient, ByCoord, ByShard, CoordStops, ShardStops, Course, Goes, Stops, kept_record, coord_at, shard_at, message, received, coord_does, shard_does, client_does, catches, stops, restarts, deed, along, after_begin, actor}
 use Rattle.rc_agreement.proofs.Cases.{on_cond, on_maybe}
 
 -- the event delivers this message to this party
@@ -149,25 +149,25 @@ move_of w sent (CrashAt node k pick) course = rests w sent (CrashAt node k pick)
 move_of w sent (Restart node) course = restart_moves w sent (Restart node) course node refl
 
 -- a node acts in no event that begins a transaction
-pub coord_joins : (w : Parties) (sent : List Envelope) (e : Event) (d : ℕ) (k : NodeCause) → CoordWhy sent e d k → joined w e ≡ w
-coord_joins w sent e d (Came from m) why = ap (joined w) why.2
-coord_joins w sent e d Catches why = ap (joined w) why
-coord_joins w sent e d (Takes t) why = ap (joined w) why
+pub coord_joins : (w : Parties) (sent : List Envelope) (e : Event) (d : ℕ) (k : NodeCause) → CoordWhy sent e d k → after_begin w e ≡ w
+coord_joins w sent e d (Came from m) why = ap (after_begin w) why.2
+coord_joins w sent e d Catches why = ap (after_begin w) why
+coord_joins w sent e d (Takes t) why = ap (after_begin w) why
 
-pub shard_joins : (w : Parties) (sent : List Envelope) (e : Event) (d s : ℕ) (k : NodeCause) → ShardWhy sent e d s k → joined w e ≡ w
-shard_joins w sent e d s (Came from m) why = ap (joined w) why.2
-shard_joins w sent e d s Catches why = ap (joined w) why
+pub shard_joins : (w : Parties) (sent : List Envelope) (e : Event) (d s : ℕ) (k : NodeCause) → ShardWhy sent e d s k → after_begin w e ≡ w
+shard_joins w sent e d s (Came from m) why = ap (after_begin w) why.2
+shard_joins w sent e d s Catches why = ap (after_begin w) why
 shard_joins w sent e d s (Takes t) why = absurd why
 
 -- nor does a client
-pub client_joins : (w : Parties) (sent : List Envelope) (e : Event) (t : ℕ) (k : ClientCause) → ClientWhy sent e t k → joined w e ≡ w
-client_joins w sent e t (Hears m) why = ap (joined w) why.2
-client_joins w sent e t (Reads k) why = ap (joined w) why
-client_joins w sent e t (Writes k value) why = ap (joined w) why
-client_joins w sent e t Commits why = ap (joined w) why
-client_joins w sent e t (Cancels k) why = ap (joined w) why
-client_joins w sent e t Retries why = ap (joined w) why
-client_joins w sent e t Vanishes why = ap (joined w) why
+pub client_joins : (w : Parties) (sent : List Envelope) (e : Event) (t : ℕ) (k : ClientCause) → ClientWhy sent e t k → after_begin w e ≡ w
+client_joins w sent e t (Hears m) why = ap (after_begin w) why.2
+client_joins w sent e t (Reads k) why = ap (after_begin w) why
+client_joins w sent e t (Writes k value) why = ap (after_begin w) why
+client_joins w sent e t Commits why = ap (after_begin w) why
+client_joins w sent e t (Cancels k) why = ap (after_begin w) why
+client_joins w sent e t Retries why = ap (after_begin w) why
+client_joins w sent e t Vanishes why = ap (after_begin w) why
 
 -- WHO ACTS
 receiver : (sent : List Envelope) (e : Event) (to : Party) (m : Msg) → Delivers sent e to m → actor sent e ≡ to

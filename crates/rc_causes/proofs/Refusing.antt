@@ -20,7 +20,7 @@ use Rattle.rc_protocol.specs.Coordinator.{promise_of, new_volatile as new_coord_
 use Rattle.rc_protocol.specs.Shard.{test}
 use Rattle.rc_protocol.specs.Nodes.{CoordNode, ShardNode, coord_started, shard_started}
 use Rattle.rc_protocol.specs.Acts.{NodeCause, Came, Catches, Hears}
-use Rattle.rc_runs.specs.World.{World, Start, Deed, started_world, coord_at, shard_at, message, actor, sends_of, lines_of, starts, course_deed, printed}
+use Rattle.rc_runs.specs.World.{World, Start, Deed, started_world, coord_at, shard_at, message, actor, sends_of, lines_of, restart_lines, course_deed, printed}
 use Rattle.rc_runs.specs.Refusals.{Happening, is_event, run}
 use Rattle.rc_agreement.proofs.Cases.{on_cond, never}
 use Rattle.rc_agreement.proofs.Tables.{in_either, got_in}
@@ -113,7 +113,7 @@ same_line w h d t reason _ (ShardWakes e s x there why) i = absurd i
 same_line w h d t reason _ (ShardHalts e s x k kept r there why logs course same) i = absurd (⊎_elim (λ (q : Stopped (ShardServer e s) ≡ RefusedLine t d reason). absurd (cc)) (λ n. n) i)
 same_line w h d t reason _ (ShardCrashes e s x there why) i = absurd (⊎_elim (λ (q : Stopped (ShardServer e s) ≡ RefusedLine t d reason). absurd (cc)) (λ n. n) i)
 
-starts_other : (e : Event) (t d : ℕ) (reason : Reason) → In (RefusedLine t d reason) (starts e) → ⊥
+starts_other : (e : Event) (t d : ℕ) (reason : Reason) → In (RefusedLine t d reason) (restart_lines e) → ⊥
 starts_other (Restart node) t d reason i = ⊎_elim (λ (e : Up node ≡ RefusedLine t d reason). absurd (cc)) (λ n. n) i
 starts_other _ t d reason i = i
 
@@ -123,9 +123,9 @@ heard_now w h t d reason i = go (is_event w h) i
     go : (b : Bool) → In (RefusedLine t d reason) (cond b (printed w h.0 h.1) []) → Delivers w.sent h.0 (client_of t) (Refused t 0 d reason)
     go true i =
         ⊎_elim
-        (λ (k : In (RefusedLine t d reason) (starts h.0)). absurd (starts_other h.0 t d reason k))
+        (λ (k : In (RefusedLine t d reason) (restart_lines h.0)). absurd (starts_other h.0 t d reason k))
         (λ (k : In (RefusedLine t d reason) (lines_of (course_deed w h.0 h.1))). same_line w h d t reason _ (move_of w.parties w.sent h.0 h.1) k)
-        (in_either (RefusedLine t d reason) (starts h.0) (lines_of (course_deed w h.0 h.1)) i)
+        (in_either (RefusedLine t d reason) (restart_lines h.0) (lines_of (course_deed w h.0 h.1)) i)
     go false i = absurd i
 
 -- IN A RUN that began with nothing sent

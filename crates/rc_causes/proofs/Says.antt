@@ -7,7 +7,7 @@ use Rattle.rc_msg.specs.declared.msg.Msg.{Msg}
 use Rattle.rc_msg.specs.declared.msg.Msg.TheVariants.{Propose, Prepared, Refused, Abandon}
 use Rattle.rc_report.specs.declared.line.Line.{Line}
 use Rattle.rc_report.specs.declared.line.Line.TheVariants.{Read as ReadLine, Own, Learned}
-use Rattle.rc_protocol.specs.Messages.{Sends}
+use Rattle.rc_protocol.specs.Messages.{Posts}
 use Rattle.rc_agreement.proofs.Sends.{EachTo}
 
 -- no proposal to abort, no refusal, no answer of a shard that says no, and no transaction given up
@@ -18,7 +18,7 @@ Dull to (Refused u b d reason) = ⊥
 Dull to (Abandon u) = ⊥
 Dull to _ = Unit {0}
 
-abbrev pub Dulls : Sends → Type 0
+abbrev pub Dulls : Posts → Type 0
 Dulls ms = EachTo Dull ms
 
 -- a read or an outcome

@@ -11,8 +11,8 @@ use Rattle.rc_body.specs.declared.reason.Reason.{Reason}
 use Rattle.rc_body.specs.declared.reason.Reason.TheVariants.{Locked, Lost, Stale, Promised}
 use Rattle.rc_msg.specs.declared.msg.Msg.{Msg}
 use Rattle.rc_msg.specs.declared.msg.Msg.TheVariants.{ReadAsk, ReadCancel, Granted, Prepare, Prepared, Finish, CatchAsk, CatchPage}
-use Rattle.rc_protocol.specs.Messages.{Sends, coordinator, or_else, most_entries}
-use Rattle.rc_protocol.specs.Shard.{ShardDurable, ShardVolatile, ShardAct, holder, reader, locked, lost_by, stale, first_reason, test, forgotten_all, settled_all, grant_of, is_free, grants, ignores_ask, on_prepare, unfinished, is_next_page, with_place, asks_next, takes_page, shard_row}
+use Rattle.rc_protocol.specs.Messages.{Posts, coordinator, or_else, most_entries}
+use Rattle.rc_protocol.specs.Shard.{ShardDurable, ShardVolatile, ShardAct, holder, reader, locked, lost_by, stale, first_reason, test, forgotten_all, settled_all, grant_of, is_free, grants, ignores_ask, on_prepare, unfinished, is_next_shard_page, with_shard_cursor, asks_next_shard_page, takes_page, shard_row}
 use Rattle.rc_protocol.specs.Acts.{NodeCause, Came, Catches, Takes, shard_act}
 use Rattle.rc_agreement.proofs.Cases.{on_cond, on_maybe, some_is}
 use Rattle.rc_agreement.proofs.Sends.{EachTo, to_none, to_one, to_both, to_map}
@@ -24,7 +24,7 @@ ShardSay d sh s v k to (Prepared u shard (Some reason)) =
     (to ≡ coordinator d) × (shard ≡ sh) × (from : Party) × (part : List Entry) × (k ≡ Came from (Prepare u part)) × (test s v u part ≡ Some reason)
 ShardSay d sh s v k to m = Dull to m
 
-abbrev pub ShardRow : (d sh : ℕ) → ShardDurable → ShardVolatile → NodeCause → Sends → Type 0
+abbrev pub ShardRow : (d sh : ℕ) → ShardDurable → ShardVolatile → NodeCause → Posts → Type 0
 ShardRow d sh s v k ms = EachTo (ShardSay d sh s v k) ms
 
 module _ (d sh : ℕ) (s : ShardDurable) (v : ShardVolatile) (k : NodeCause) where
@@ -35,7 +35,7 @@ module _ (d sh : ℕ) (s : ShardDurable) (v : ShardVolatile) (k : NodeCause) whe
   dull_say to (Prepared u shard (Some reason)) h = absurd h
   dull_say to m h = h
 
-  plain : (ms : Sends) → Dulls ms → ShardRow d sh s v k ms
+  plain : (ms : Posts) → Dulls ms → ShardRow d sh s v k ms
   plain ms q = record { each = λ to m i. dull_say to m (q.each to m i) }
 
   none : ShardRow d sh s v k []
@@ -44,7 +44,7 @@ module _ (d sh : ℕ) (s : ShardDurable) (v : ShardVolatile) (k : NodeCause) whe
 grants_dull : (d : ℕ) (s : ShardDurable) (v : ShardVolatile) → Dulls (grants d s v)
 grants_dull d s v = to_map Dull (grant_of d s.rows) (filter (is_free s.parts) v.waiting) (λ _. tt)
 
-next_dull : (d place : ℕ) (es : List (ℕ × Decision)) → Dulls (asks_next d place es)
+next_dull : (d place : ℕ) (es : List (ℕ × Decision)) → Dulls (asks_next_shard_page d place es)
 next_dull d place es = on_cond Dulls (length es == most_entries) _ _ (λ _. to_one Dull (coordinator d) (CatchAsk (place + length es)) tt) (λ _. to_none Dull)
 
 page_dull : (d : ℕ) (s : ShardDurable) (v : ShardVolatile) (es : List (ℕ × Decision)) → Dulls (takes_page d s v es).sends
@@ -52,7 +52,7 @@ page_dull d s v [] = to_none Dull
 page_dull d s v (e ∷ es) = grants_dull d (settled_all s (e ∷ es)) (forgotten_all v (e ∷ es))
 
 pub shard_row_of : (c : Layout) (d sh : ℕ) (s : ShardDurable) (v : ShardVolatile) (k : NodeCause) → ShardRow d sh s v k (shard_act c d sh s v k).sends
-shard_row_of c d sh s v Catches = plain d sh s v Catches _ (to_one Dull (coordinator d) (CatchAsk v.place) tt)
+shard_row_of c d sh s v Catches = plain d sh s v Catches _ (to_one Dull (coordinator d) (CatchAsk v.cursor) tt)
 shard_row_of c d sh s v (Takes t) = none d sh s v (Takes t)
 shard_row_of c d sh s v (Came from m) = comes m
   where
@@ -77,8 +77,8 @@ shard_row_of c d sh s v (Came from m) = comes m
         (λ _. none d sh s v _) (λ _. plain d sh s v _ _ (grants_dull d (settled_all s ((t, o) ∷ [])) (forgotten_all v ((t, o) ∷ []))))
     comes (CatchPage e place es) =
         on_cond (R d sh s v (Came from (CatchPage e place es))) (is_dc c e) _ _
-        (λ _. on_cond (R d sh s v (Came from (CatchPage e place es))) (is_next_page v place es) _ _
-        (λ _. plain d sh s v _ _ (to_both Dull _ _ (page_dull d s (with_place v (place + length es)) (unfinished c sh s es)) (next_dull d place es))) (λ _. none d sh s v _))
+        (λ _. on_cond (R d sh s v (Came from (CatchPage e place es))) (is_next_shard_page v place es) _ _
+        (λ _. plain d sh s v _ _ (to_both Dull _ _ (page_dull d s (with_shard_cursor v (place + length es)) (unfinished c sh s es)) (next_dull d place es))) (λ _. none d sh s v _))
         (λ _. none d sh s v _)
     comes m = none d sh s v (Came from m)
 

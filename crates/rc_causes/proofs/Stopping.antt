@@ -8,7 +8,7 @@ use Rattle.rc_report.specs.declared.line.Line.{Line}
 use Rattle.rc_report.specs.declared.line.Line.TheVariants.{Stopped, Up}
 use Rattle.rc_runs.specs.declared.event.Event.{Event}
 use Rattle.rc_runs.specs.declared.event.Event.TheVariants.{Crash, Restart}
-use Rattle.rc_runs.specs.World.{World, Deed, deed, starts, lines_of, course_deed, printed}
+use Rattle.rc_runs.specs.World.{World, Deed, deed, restart_lines, lines_of, course_deed, printed}
 use Rattle.rc_runs.specs.Refusals.{Happening, is_event}
 use Rattle.rc_agreement.proofs.Tables.{in_either}
 use Rattle.rc_causes.specs.Stops.{made_in, stopped_in, AppendStopped, StopsHaveCauses}
@@ -50,7 +50,7 @@ by_move w h node _ (ShardHalts d s x k kept r there why logs course same) is i =
     }))
 by_move w h node _ (ShardCrashes d s x there why) is i = inl (why ∙ ap Crash (same_node (ShardServer d s) node i))
 
-starts_other : (e : Event) (node : NodeId) → In (Stopped node) (starts e) → ⊥
+starts_other : (e : Event) (node : NodeId) → In (Stopped node) (restart_lines e) → ⊥
 starts_other (Restart n) node i = ⊎_elim (λ (e : Up n ≡ Stopped node). absurd (cc)) (λ n. n) i
 starts_other _ node i = i
 
@@ -60,7 +60,7 @@ stops_have_causes w h node i = go (is_event w h) i
     go : (b : Bool) → In (Stopped node) (cond b (printed w h.0 h.1) []) → Cause w h node
     go true i =
         ⊎_elim
-        (λ (k : In (Stopped node) (starts h.0)). absurd (starts_other h.0 node k))
+        (λ (k : In (Stopped node) (restart_lines h.0)). absurd (starts_other h.0 node k))
         (λ (k : In (Stopped node) (lines_of (course_deed w h.0 h.1))). by_move w h node _ (move_of w.parties w.sent h.0 h.1) refl k)
-        (in_either (Stopped node) (starts h.0) (lines_of (course_deed w h.0 h.1)) i)
+        (in_either (Stopped node) (restart_lines h.0) (lines_of (course_deed w h.0 h.1)) i)
     go false i = absurd i

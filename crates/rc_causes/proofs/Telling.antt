@@ -14,7 +14,7 @@ use Rattle.rc_runs.specs.declared.event.Event.{Event}
 use Rattle.rc_runs.specs.declared.event.Event.TheVariants.{Restart}
 use Rattle.rc_protocol.specs.Client.{Client, ClientAct}
 use Rattle.rc_protocol.specs.Acts.{client_act}
-use Rattle.rc_runs.specs.World.{World, Parties, Deed, ByClient, replaced, joined, moved, starts, lines_of, course_deed, step, printed}
+use Rattle.rc_runs.specs.World.{World, Parties, Deed, ByClient, replaced, after_begin, parties_after, restart_lines, lines_of, course_deed, step, printed}
 use Rattle.rc_runs.specs.Refusals.{Happening, is_event, after_event, run, lines_at, lines}
 use Rattle.rc_claims.specs.Outcomes.{Chosen}
 use Rattle.rc_claims.specs.Lives.{IsLife}
@@ -44,12 +44,12 @@ pub record TellsNow (w : Parties) (t : ℕ) (outcome : Outcome) (after : Parties
 stop_other : (node : NodeId) (t : ℕ) (outcome : Outcome) → In (Learned t outcome) (Stopped node ∷ []) → ⊥
 stop_other node t outcome i = ⊎_elim (λ (e : Stopped node ≡ Learned t outcome). absurd (cc)) (λ n. n) i
 
-by_move : (w : World) (h : Happening) (t : ℕ) (outcome : Outcome) (d : Deed) → Move w.parties w.sent h.0 h.1 d → In (Learned t outcome) (lines_of d) → TellsNow w.parties t outcome (moved (joined w.parties h.0) d)
+by_move : (w : World) (h : Happening) (t : ℕ) (outcome : Outcome) (d : Deed) → Move w.parties w.sent h.0 h.1 d → In (Learned t outcome) (lines_of d) → TellsNow w.parties t outcome (parties_after (after_begin w.parties h.0) d)
 by_move w h t outcome _ Rests i = absurd i
 by_move w h t outcome _ (ClientActs u x k is why) i =
     let a : ClientAct = client_act w.parties.layout u x k in
     let p = (act_prints w.parties.layout u x k).each t outcome i in
-    subst (λ (y : Parties). TellsNow w.parties t outcome (moved y (ByClient u a))) (sym (client_joins w.parties w.sent h.0 u k why))
+    subst (λ (y : Parties). TellsNow w.parties t outcome (parties_after y (ByClient u a))) (sym (client_joins w.parties w.sent h.0 u k why))
     (⊎_elim
     (λ (e : (t ≡ u) × (found nat_cmp (replaced w.parties.clients u a.after) t ≡ Some a.after)). record { client = a.after; is = e.1; decision = p.1; held = p.2; same = p.3; rest = refl })
     (λ (e : (t ≡ u → ⊥) × (found nat_cmp (replaced w.parties.clients u a.after) t ≡ found nat_cmp w.parties.clients t)). absurd (e.0 p.0))
@@ -63,7 +63,7 @@ by_move w h t outcome _ (ShardWakes d s x there why) i = absurd i
 by_move w h t outcome _ (ShardHalts d s x k kept r there why logs course same) i = absurd (stop_other (ShardServer d s) t outcome i)
 by_move w h t outcome _ (ShardCrashes d s x there why) i = absurd (stop_other (ShardServer d s) t outcome i)
 
-starts_other : (e : Event) (t : ℕ) (outcome : Outcome) → In (Learned t outcome) (starts e) → ⊥
+starts_other : (e : Event) (t : ℕ) (outcome : Outcome) → In (Learned t outcome) (restart_lines e) → ⊥
 starts_other (Restart node) t outcome i = ⊎_elim (λ (e : Up node ≡ Learned t outcome). absurd (cc)) (λ n. n) i
 starts_other _ t outcome i = i
 
@@ -73,9 +73,9 @@ told_now w h t outcome i = go (is_event w h) i
     go : (b : Bool) → In (Learned t outcome) (cond b (printed w h.0 h.1) []) → TellsNow w.parties t outcome (cond b (step w h.0 h.1) w).parties
     go true i =
         ⊎_elim
-        (λ (k : In (Learned t outcome) (starts h.0)). absurd (starts_other h.0 t outcome k))
+        (λ (k : In (Learned t outcome) (restart_lines h.0)). absurd (starts_other h.0 t outcome k))
         (λ (k : In (Learned t outcome) (lines_of (course_deed w h.0 h.1))). by_move w h t outcome _ (move_of w.parties w.sent h.0 h.1) k)
-        (in_either (Learned t outcome) (starts h.0) (lines_of (course_deed w h.0 h.1)) i)
+        (in_either (Learned t outcome) (restart_lines h.0) (lines_of (course_deed w h.0 h.1)) i)
     go false i = absurd i
 
 module _ (c : Layout) (lay : IsLayout c) where

@@ -86,7 +86,7 @@ abbrev pub read_deliveries : Layout → ℕ
 read_deliveries c = 3 * c.dcs - least_quorum c
 
 abbrev pub in_shard : Layout → List Touched → ℕ → Bool
-in_shard c touched s = list_any (λ (k : Touched). shard_of c k.key == s) touched
+in_shard c touched sh = list_any (λ (k : Touched). shard_of c k.key == sh) touched
 
 abbrev pub shards_held : Layout → List Touched → ℕ
 shards_held c touched = length (filter (in_shard c touched) (up_to c.shards))

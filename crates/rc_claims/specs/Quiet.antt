@@ -38,7 +38,7 @@ abbrev pub keys_of : World → ℕ → List (List ℕ)
 keys_of w t = maybe (found nat_cmp w.parties.clients t) [] (λ x. map (λ (s : Slot). s.key) x.slots)
 
 abbrev pub shards_of : World → ℕ → List ℕ
-shards_of w t = filter (λ (s : ℕ). list_any (λ (k : List ℕ). shard_of w.parties.layout k == s) (keys_of w t)) (up_to w.parties.layout.shards)
+shards_of w t = filter (λ (sh : ℕ). list_any (λ (k : List ℕ). shard_of w.parties.layout k == sh) (keys_of w t)) (up_to w.parties.layout.shards)
 
 -- what became chosen: the order grows at its end alone
 abbrev pub chosen_between : World → World → List (ℕ × List Entry)
@@ -50,11 +50,11 @@ HasNone keys body = (k : List ℕ) → In k keys → has_key k body ≡ false
 
 -- the nodes of d are up
 abbrev pub NodesAreUp : World → ℕ → Type 0
-NodesAreUp w d = IsTrue (is_up w.parties (Coord d)) × ((s : ℕ) (x : ShardNode) → shard_at w.parties d s ≡ Some x → IsTrue x.up)
+NodesAreUp w d = IsTrue (is_up w.parties (Coord d)) × ((sh : ℕ) (x : ShardNode) → shard_at w.parties d sh ≡ Some x → IsTrue x.up)
 
 -- no other transaction is prepared at a shard of d with one of these keys
 abbrev pub NoOtherIsPrepared : World → ℕ → ℕ → List (List ℕ) → Type 0
-NoOtherIsPrepared w d t keys = (s u : ℕ) (x : ShardNode) (part : List Entry) → shard_at w.parties d s ≡ Some x → found nat_cmp x.durable.parts u ≡ Some part → u ≢ t → HasNone keys part
+NoOtherIsPrepared w d t keys = (sh u : ℕ) (x : ShardNode) (part : List Entry) → shard_at w.parties d sh ≡ Some x → found nat_cmp x.durable.parts u ≡ Some part → u ≢ t → HasNone keys part
 
 -- no take-over of t is open
 abbrev pub NoTakeOver : World → ℕ → Type 0
@@ -91,11 +91,11 @@ abbrev pub of_tx : ℕ → ℕ → Need → Option Need
 of_tx t u need = if u == t then Some need else None
 
 abbrev pub need_of : ℕ → Party → Party → Msg → Option Need
-need_of t from (Node (ShardServer d s)) (ReadAsk u k) = of_tx t u (Asks d k)
-need_of t (Node (ShardServer d s)) to (Granted u k e version value) = of_tx t u (Grants d k)
+need_of t from (Node (ShardServer d sh)) (ReadAsk u k) = of_tx t u (Asks d k)
+need_of t (Node (ShardServer d sh)) to (Granted u k e version value) = of_tx t u (Grants d k)
 need_of t from (Node (Coord d)) (Propose u b o) = of_tx t u (Proposes d)
-need_of t from (Node (ShardServer d s)) (Prepare u part) = of_tx t u (Prepares d s)
-need_of t (Node (ShardServer d s)) to (Prepared u sh reason) = of_tx t u (Answers d s)
+need_of t from (Node (ShardServer d sh)) (Prepare u part) = of_tx t u (Prepares d sh)
+need_of t (Node (ShardServer d sh)) to (Prepared u sh reason) = of_tx t u (Answers d sh)
 need_of t (Node (Coord d)) (ClientOf x) (Voted u b e o) = of_tx t u (Votes d)
 need_of t from to msg = None
 
@@ -104,8 +104,8 @@ abbrev pub IsAmong : List ℕ → Need → Type 0
 IsAmong members (Asks d k) = In d members
 IsAmong members (Grants d k) = In d members
 IsAmong members (Proposes d) = In d members
-IsAmong members (Prepares d s) = In d members
-IsAmong members (Answers d s) = In d members
+IsAmong members (Prepares d sh) = In d members
+IsAmong members (Answers d sh) = In d members
 IsAmong members (Votes d) = Unit {0}
 
 pub record IsNeeded (members : List ℕ) (t : ℕ) (sent : List Envelope) (n : ℕ) : Type 0 where

@@ -15,7 +15,7 @@ use Rattle.rc_claims.specs.Outcomes.{Chosen, all_committed}
 
 -- the shard has applied t, or has not come to its place in the list
 abbrev pub HasOrGets : ShardNode → ℕ → ℕ → Type 0
-HasOrGets x t place = (found nat_cmp x.durable.finished t ≡ Some Committed) ⊎ (x.volatile.place ≤ place)
+HasOrGets x t place = (found nat_cmp x.durable.finished t ≡ Some Committed) ⊎ (x.volatile.cursor ≤ place)
 
 -- t is committed, stands with its body in the list of d, and each shard of d that it touches has applied it or gets it from there
 pub record IsWhole (w : World) (d t : ℕ) : Type 0 where
@@ -35,5 +35,5 @@ AppliedIsWhole w = (d sh t : ℕ) (x : ShardNode) → shard_at w.parties d sh �
 -- a shard has finished each entry below its catch-up place that concerns it
 abbrev pub IsCaughtUp : World → Type 0
 IsCaughtUp w = (d sh n t : ℕ) (y : CoordNode) (x : ShardNode) (o : Decision) →
-    coord_at w.parties d ≡ Some y → shard_at w.parties d sh ≡ Some x → nth y.durable.outcomes n ≡ Some (t, o) → n < x.volatile.place →
+    coord_at w.parties d ≡ Some y → shard_at w.parties d sh ≡ Some x → nth y.durable.outcomes n ≡ Some (t, o) → n < x.volatile.cursor →
     IsTrue (concerns w.parties.layout sh o) → found nat_cmp x.durable.finished t ≡ Some (outcome_of o)

@@ -2,7 +2,7 @@
 use Rattle.std.specs.Prelude.{ℕ, ◌==◌, Bool, false, not, ◌&&◌, List, [], ◌∷◌, codes, Option, Some, None}
 use Rattle.std.specs.Str.{bytes_eq}
 use Rattle.std.specs.Option.{option_map_or}
-use Rattle.rc_script.specs.Words.{◌>>=◌, only_if, behind, number_in}
+use Rattle.rc_script.specs.Words.{◌>>=◌, only_if, text_after, number_in}
 use Rattle.rc_config.specs.declared.mode.Mode.{Mode}
 use Rattle.rc_config.specs.declared.mode.Mode.TheVariants as modes
 
@@ -12,7 +12,7 @@ is_no_option (byte ∷ bytes) = not (byte == 45)
 
 -- `--logs=` and the directory, in one word
 abbrev pub is_joined : List ℕ → List ℕ → Bool
-is_joined word dir = option_map_or (λ rest. bytes_eq rest dir) (behind (codes "--logs=") word) false
+is_joined word dir = option_map_or (λ rest. bytes_eq rest dir) (text_after (codes "--logs=") word) false
 
 abbrev pub names_logs : List (List ℕ) → List ℕ → Bool
 names_logs (word ∷ []) dir = is_joined word dir

@@ -11,8 +11,8 @@ use Rattle.rc_config.specs.declared.operation.Operation.TheVariants as operation
 -- ---- texts
 
 -- K V; what follows the space after the key is the value, and without that space it is empty
-abbrev pub write_of : List ℕ → Option Operation
-write_of words = do
+abbrev pub write_operation : List ℕ → Option Operation
+write_operation words = do
   key ← key_of (first_word words)
   val ← val_of (unwrap_or (later_words words) [])
   Some (operations.Write key val)
@@ -27,7 +27,7 @@ bare_operation word =
 abbrev pub operation_with : List ℕ → List ℕ → Option Operation
 operation_with word words =
     if bytes_eq word (codes "read") then option_map operations.Read (key_of words)
-    else if bytes_eq word (codes "write") then write_of words
+    else if bytes_eq word (codes "write") then write_operation words
     else if bytes_eq word (codes "delete") then option_map (λ key. operations.Write key gone) (key_of words)
     else if bytes_eq word (codes "cancel") then option_map operations.Cancel (key_of words)
     else None

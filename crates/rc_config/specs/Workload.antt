@@ -3,7 +3,7 @@ use Rattle.std.specs.Prelude.{◌≡◌, ℕ, ℤ, pos, negsuc, ◌==◌, nat_le
 use Rattle.std.specs.List.{list_any, list_all}
 use Rattle.std.specs.Str.{bytes_eq, is_utf8}
 use Rattle.rc_ids.specs.declared.names.NodeId.{NodeId}
-use Rattle.rc_ids.specs.declared.names.NodeId.TheVariants.{Coord, Shard}
+use Rattle.rc_ids.specs.Parties.{is_same_node}
 use Rattle.rc_ids.specs.Cluster.{layout, cluster_fault, equal_weights}
 use Rattle.rc_script.specs.Words.{◌>>=◌, only_if, key_of, node_of}
 use Rattle.toml.specs.Data.{Data, Items, no_items, item, Members, no_members, member, get_member, as_integer, as_str, as_array, as_table}
@@ -129,14 +129,8 @@ stop_from dcs shards entries = do
 abbrev pub stop_at : ℕ → ℕ → Data → Option StopPlan
 stop_at dcs shards value = as_table value >>= stop_from dcs shards
 
-abbrev pub is_node : NodeId → NodeId → Bool
-is_node (Coord dc) (Coord other) = dc == other
-is_node (Coord dc) (Shard other shard) = false
-is_node (Shard dc shard) (Coord other) = false
-is_node (Shard dc shard) (Shard other place) = (dc == other) && (shard == place)
-
 abbrev pub have_other_nodes : NodeId → List StopPlan → Bool
-have_other_nodes node stops = list_all (λ stop. not (is_node stop.node node)) stops
+have_other_nodes node stops = list_all (λ stop. not (is_same_node stop.node node)) stops
 
 abbrev pub nodes_differ : List StopPlan → Bool
 nodes_differ [] = true

@@ -4,7 +4,7 @@ ghost use Rattle.std.specs.Option.{option_map};
 ghost use Rattle.std.specs.Str.{bytes_eq};
 ghost use Rattle.rc_ids.specs.Texts.{gone};
 ghost use Rattle.rc_script.specs.Words.{key_of};
-ghost use Rattle.rc_config.specs.Plans.{write_of as write_of_lem, bare_operation as bare_operation_lem, operation_with as operation_with_lem, operation_of as operation_of_lem};
+ghost use Rattle.rc_config.specs.Plans.{write_operation as write_of_lem, bare_operation as bare_operation_lem, operation_with as operation_with_lem, operation_of as operation_of_lem};
 
 use rc_ids::{Key, NoMemory, Val};
 use rc_script::words::{cut, key, val};

@@ -2,7 +2,7 @@
 ghost use Rattle.std.specs.Prelude.{◌≡◌, ◌≤◌, length, IfOk};
 ghost use Rattle.std.specs.Option.{option_map};
 ghost use Rattle.toml.specs.View.{view, table_view, items_view};
-ghost use Rattle.rc_config.specs.Workload.{needed, each, node_at as node_at_lem, is_node as is_node_lem, stop_from as stop_from_lem, stop_at as stop_at_lem, stops_at as stops_at_lem, have_other_nodes as have_other_nodes_lem, nodes_differ as nodes_differ_lem, are_stops as are_stops_lem};
+ghost use Rattle.rc_config.specs.Workload.{needed, each, node_at as node_at_lem, stop_from as stop_from_lem, stop_at as stop_at_lem, stops_at as stops_at_lem, have_other_nodes as have_other_nodes_lem, nodes_differ as nodes_differ_lem, are_stops as are_stops_lem};
 
 use crate::plan::{StopPlan, StopPlans};
 use crate::toml_values::{
@@ -66,23 +66,11 @@ fn each_stop(
     Ok(Some(stops))
 }
 
-fn is_node(first: &NodeId, second: &NodeId) -> bool
-    ensures { result ≡ is_node_lem first.now second.now }
-{
-    match (first, second) {
-        (NodeId::Coord(dc), NodeId::Coord(other)) => dc.0 == other.0,
-        (NodeId::Shard(dc, shard), NodeId::Shard(other, place)) => {
-            dc.0 == other.0 && shard.0 == place.0
-        }
-        (NodeId::Coord(_), NodeId::Shard(_, _)) | (NodeId::Shard(_, _), NodeId::Coord(_)) => false,
-    }
-}
-
 /// Whether the stops are of other nodes than this one.
 fn have_other_nodes(node: &NodeId, stops: &[StopPlan]) -> bool
     ensures { result ≡ have_other_nodes_lem node.now stops.now }
 {
-    stops.iter().all(|stop| !is_node(&stop.node, node))
+    stops.iter().all(|stop| !stop.node.is(node))
 }
 
 /// Whether no two stops are of one node.

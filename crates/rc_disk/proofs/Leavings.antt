@@ -2,7 +2,7 @@
 use Rattle.std.proofs.Common.{◌≡◌, ◌⊎◌, inl, inr, ℕ, zero, suc, ◌+◌, ◌-◌, ◌≤◌, ◌==◌, Bool, true, false, List, [], ◌∷◌, ◌++◌, length, take, drop, map, min, max, Option, None, Some, refl, sym, ◌∙◌, ap, subst, arith, if◌then◌else◌, length-append, length-drop, append_assoc}
 use Rattle.std.proofs.Math.Seq.{take-length}
 use Rattle.std.proofs.lemmas.List.{length-take, take-append-drop, drop-drop}
-use Rattle.rc_disk.specs.Calls.{Images, Call, Writes, Shortens, Syncs, effect, made, settled, image, images_done, images_failed, filled}
+use Rattle.rc_disk.specs.Calls.{Images, Call, Writes, Shortens, Syncs, effect, made, all_synced, image, images_done, images_failed, filled}
 use Rattle.rc_disk.specs.Crashes.{Patches, Trims, Stems, AddsNone}
 use Rattle.rc_disk.specs.Past.{IsOne, fits, images_after}
 use Rattle.rc_disk.specs.Steps.{Steps}
@@ -68,13 +68,13 @@ fewer (Writes place bytes) before now less sub steps = record { source = λ left
 fewer (Shortens len) before now less sub steps = record { source = λ left is. steps.source left (sub left is) }
 fewer Syncs before now less sub steps = record { source = λ left is. steps.source left (sub left is) }
 
-all_same : (bytes left : List ℕ) → IsOne (settled bytes) left → left ≡ bytes
+all_same : (bytes left : List ℕ) → IsOne (all_synced bytes) left → left ≡ bytes
 all_same bytes left (inl is) = is
 all_same bytes left (inr (inl is)) = is
 all_same bytes left (inr (inr (inl is))) = is
 all_same bytes left (inr (inr (inr is))) = is
 
-image_one : (pick : ℕ) (im : Images) (left : List ℕ) → IsOne (settled (image pick im)) left → IsOne im left
+image_one : (pick : ℕ) (im : Images) (left : List ℕ) → IsOne (all_synced (image pick im)) left → IsOne im left
 image_one pick im left one = of_image (pick == 0) (pick == 1) (pick == 3) (all_same (image pick im) left one)
   where
     of_image : (a b d : Bool) → left ≡ (if a then im.synced else (if b then im.plain else (if d then im.ones else im.full))) → IsOne im left
@@ -83,7 +83,7 @@ image_one pick im left one = of_image (pick == 0) (pick == 1) (pick == 3) (all_s
     of_image false false true is = inr (inr (inr is))
     of_image false false false is = inr (inr (inl is))
 
-plain_one : (im : Images) (left : List ℕ) → IsOne (settled im.plain) left → IsOne im left
+plain_one : (im : Images) (left : List ℕ) → IsOne (all_synced im.plain) left → IsOne im left
 plain_one im left one = inr (inl (all_same im.plain left one))
 
 -- after a change
@@ -91,8 +91,8 @@ pub steps_after : (fell : Option ℕ) (call : Call) (im : Images) → Steps call
 steps_after None (Writes place bytes) im = steps_made (Writes place bytes) im
 steps_after None (Shortens len) im = steps_made (Shortens len) im
 steps_after None Syncs im = record { source = plain_one im }
-steps_after (Some pick) call im = fewer call (IsOne im) (IsOne (made call im)) (IsOne (settled (image pick (made call im)))) (image_one pick (made call im)) (steps_made call im)
+steps_after (Some pick) call im = fewer call (IsOne im) (IsOne (made call im)) (IsOne (all_synced (image pick (made call im)))) (image_one pick (made call im)) (steps_made call im)
 
 -- nothing but the bytes may be left
-pub settled_only : (bytes left : List ℕ) → IsOne (settled bytes) left → Some bytes ≡ Some left
+pub settled_only : (bytes left : List ℕ) → IsOne (all_synced bytes) left → Some bytes ≡ Some left
 settled_only bytes left one = ap Some (sym (all_same bytes left one))

@@ -59,15 +59,15 @@ made (Shortens len) im = record { synced = im.synced; plain = take len im.plain;
 made Syncs im = im
 
 -- all of it is on the disk
-abbrev pub settled : List ℕ → Images
-settled bytes = record { synced = bytes; plain = bytes; full = bytes; ones = bytes }
+abbrev pub all_synced : List ℕ → Images
+all_synced bytes = record { synced = bytes; plain = bytes; full = bytes; ones = bytes }
 
 abbrev pub image : ℕ → Images → List ℕ
 image pick im = if pick == 0 then im.synced else (if pick == 1 then im.plain else (if pick == 3 then im.ones else im.full))
 
 -- what a read gives
-abbrev pub seen : Told → List ℕ
-seen t = t.images.plain
+abbrev pub read_bytes : Told → List ℕ
+read_bytes t = t.images.plain
 
 abbrev pub power_after : Power → Power
 power_after On = On
@@ -101,19 +101,19 @@ counted_failed cause n = record { calls = n.calls + 1; failed = n.failed ++ reco
 abbrev pub images_done : Call → Images → Images
 images_done (Writes place bytes) im = made (Writes place bytes) im
 images_done (Shortens len) im = made (Shortens len) im
-images_done Syncs im = settled im.plain
+images_done Syncs im = all_synced im.plain
 
 -- of the calls that fail only the one at which the power goes off changes the images: it leaves its pick's
 abbrev pub images_failed : Cause → Call → Images → Images
 images_failed ByList call im = im
-images_failed (ByCut pick) call im = settled (image pick (made call im))
+images_failed (ByCut pick) call im = all_synced (image pick (made call im))
 images_failed WhileOff call im = im
 
-abbrev pub did : Call → Told → Told
-did call t = record { numbers = counted t.numbers; reads = t.reads; power = power_after t.power; images = images_done call t.images }
+abbrev pub after_done : Call → Told → Told
+after_done call t = record { numbers = counted t.numbers; reads = t.reads; power = power_after t.power; images = images_done call t.images }
 
-abbrev pub failed_to : Call → Told → Told
-failed_to call t = record {
+abbrev pub after_failed : Call → Told → Told
+after_failed call t = record {
   numbers = counted_failed (cause_at t.power) t.numbers;
   reads = t.reads;
   power = power_after t.power;
@@ -122,7 +122,7 @@ failed_to call t = record {
 
 -- after a call that was done, or that failed
 abbrev pub after : Call → Bool → Told → Told
-after call ok t = if ok then did call t else failed_to call t
+after call ok t = if ok then after_done call t else after_failed call t
 
 abbrev pub read_done : Reads → Reads
 read_done r = record { made = raised r.made; failed = r.failed; off = r.off }

@@ -1,7 +1,7 @@
 -- A disk in memory, or a file that tells nothing.
 use Rattle.std.specs.Prelude.{ℕ, ◌≡◌, ◌≤◌, List, length, Option, None, Some, IfSome, refl}
 use Rattle.std.proofs.Common.{inl, inr}
-use Rattle.rc_disk.specs.Calls.{Told, seen}
+use Rattle.rc_disk.specs.Calls.{Told, read_bytes}
 use Rattle.rc_disk.specs.Memory.{images_of, history_of}
 use Rattle.rc_disk.specs.MemDisks.{told_of, content_of, power_of, faults_of, cuts_of}
 use Rattle.rc_disk.specs.declared.power.Power.{Power}
@@ -53,7 +53,7 @@ abbrev pub length_host : HostDisk → ℕ
 length_host (Memory d) = length (content_of d)
 length_host (File f) = f.len
 
-pub told_content_host : (d : HostDisk) → IfSome (told_host d) (λ t. content_host d ≡ Some (seen t))
+pub told_content_host : (d : HostDisk) → IfSome (told_host d) (λ t. content_host d ≡ Some (read_bytes t))
 told_content_host (Memory d) = refl
 told_content_host (File f) = tt
 

@@ -6,7 +6,7 @@ use Rattle.std.specs.Option.{option_map}
 use Rattle.rc_disk.specs.Places.{Standing, Start, Tally, standing}
 use Rattle.rc_disk.specs.declared.marks.Marks.{Marks}
 use Rattle.rc_disk.specs.declared.marks.Tallied.{Tallied}
-use Rattle.rc_disk.specs.Calls.{Told, settled}
+use Rattle.rc_disk.specs.Calls.{Told, all_synced}
 use Rattle.rc_disk.specs.declared.power.Power.{Power}
 use Rattle.rc_disk.specs.declared.power.Power.TheVariants.{On}
 use Rattle.rc_disk.specs.Memory.{images_of, numbers_of, reads_of, history_of, verdict, is_read}
@@ -40,7 +40,7 @@ told_first bytes = record {
   numbers = record { calls = 0; failed = [] };
   reads = record { made = 0; failed = []; off = 0 };
   power = On;
-  images = settled bytes;
+  images = all_synced bytes;
 }
 
 abbrev pub standing_of : MemDisk → Standing

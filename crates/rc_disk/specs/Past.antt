@@ -2,7 +2,7 @@
 use Rattle.std.specs.Prelude.{ℕ, ◌≡◌, ◌⊎◌, ◌+◌, ◌≤◌, List, [], ◌∷◌, ◌++◌, length, take, drop, Option, None, Some}
 use Rattle.std.proofs.Common.{sym, ap, subst, ◌∙◌}
 use Rattle.std.proofs.Math.Nat.{le_antisymm, le_refl}
-use Rattle.rc_disk.specs.Calls.{Call, Writes, Shortens, Syncs, Images, made, settled, image, images_done, images_failed}
+use Rattle.rc_disk.specs.Calls.{Call, Writes, Shortens, Syncs, Images, made, all_synced, image, images_done, images_failed}
 use Rattle.rc_disk.specs.declared.power.Cause.TheVariants.{ByCut}
 use Rattle.rc_disk.specs.declared.change.Change.{Change}
 use Rattle.rc_disk.specs.declared.change.Change.TheVariants.{Wrote, Shortened, Synced}
@@ -30,8 +30,8 @@ abbrev pub images_after : Option ℕ → Call → Images → Images
 images_after None call im = images_done call im
 images_after (Some pick) call im = images_failed (ByCut pick) call im
 
-abbrev pub moved : Event → List ℕ → Images → Images
-moved event bytes im = images_after event.fell (call_of event.change bytes) im
+abbrev pub images_moved : Event → List ℕ → Images → Images
+images_moved event bytes im = images_after event.fell (call_of event.change bytes) im
 
 -- what was there at first, and what happened since, with all bytes that were written
 pub record History : Type 0 where
@@ -41,7 +41,7 @@ pub record History : Type 0 where
 
 unfoldable pub replay : List ℕ → List Event → Images → Images
 replay bytes [] im = im
-replay bytes (event ∷ events) im = replay (drop (count_of event.change) bytes) events (moved event (take (count_of event.change) bytes) im)
+replay bytes (event ∷ events) im = replay (drop (count_of event.change) bytes) events (images_moved event (take (count_of event.change) bytes) im)
 
 unfoldable pub total_count : List Event → ℕ
 total_count [] = 0
@@ -49,7 +49,7 @@ total_count (event ∷ events) = count_of event.change + total_count events
 
 -- the images after so many events
 abbrev pub state_at : History → ℕ → Images
-state_at h k = replay h.bytes (take k h.events) (settled h.first)
+state_at h k = replay h.bytes (take k h.events) (all_synced h.first)
 
 -- one of the four images
 abbrev pub IsOne : Images → List ℕ → Type 0

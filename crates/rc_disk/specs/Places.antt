@@ -1,7 +1,7 @@
 -- What a farm keeps of each node's disk.
 use Rattle.std.specs.Prelude.{ℕ, ◌≡◌, ◌≤◌, max, List, [], length, Option, IfSome}
 use Rattle.std.specs.Option.{option_map}
-use Rattle.rc_disk.specs.Calls.{Told, settled, powered}
+use Rattle.rc_disk.specs.Calls.{Told, all_synced, powered}
 use Rattle.rc_disk.specs.declared.power.Power.{Power}
 use Rattle.rc_disk.specs.declared.power.Power.TheVariants.{On}
 
@@ -54,7 +54,7 @@ pub record IsReady (s : Standing) : Type 0 where
 -- nothing is on the disk
 pub record IsFresh (s : Standing) : Type 0 where
   pub nothing : IfSome s.content (λ c. c ≡ [])
-  pub no_image : IfSome s.told (λ t. t.images ≡ settled [])
+  pub no_image : IfSome s.told (λ t. t.images ≡ all_synced [])
 
 -- counts never fall
 pub record HasLaterCounts (old new : Standing) : Type 0 where

@@ -2,7 +2,7 @@
 ghost use Rattle.std.specs.Prelude.{◌≡◌, ◌+◌, ◌≤◌, max, List, ℕ, length, take, drop, Option, Some, OnOk, IfSome, IsTrue, is_ok, is_some};
 ghost use Rattle.std.specs.Option.{option_map};
 ghost use Rattle.rc_ports.specs.Causes.{HasCause};
-ghost use Rattle.rc_disk.specs.Calls.{Told, Writes, Shortens, Syncs, effect, seen, after, after_read, armed, powered, power_after, holds, is_on, cause_at};
+ghost use Rattle.rc_disk.specs.Calls.{Told, Writes, Shortens, Syncs, effect, read_bytes, after, after_read, armed, powered, power_after, holds, is_on, cause_at};
 ghost use Rattle.rc_disk.specs.Counts.{HasCuts, AreCounted, read_cause};
 ghost use Rattle.rc_disk.specs.declared.power.Power.{Power as PowerState};
 ghost use Rattle.rc_disk.specs.declared.power.Power.TheVariants.{On, Armed};
@@ -162,7 +162,7 @@ pub trait Disk: Drop {
         ensures cuts { cuts self.new ≡ cuts self.old };
 
     // A disk that tells its calls tells its content.
-    ghost told_content: { (d : Self) → IfSome (told d) (λ t. content d ≡ Some (seen t)) };
+    ghost told_content: { (d : Self) → IfSome (told d) (λ t. content d ≡ Some (read_bytes t)) };
 
     // What it tells of its power is so.
     ghost told_power: { (d : Self) → IfSome (told d) (λ t. t.power ≡ power d) };

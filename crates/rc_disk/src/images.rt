@@ -1,7 +1,7 @@
 // The four images of a memory disk.
 ghost use Rattle.std.specs.Prelude.{◌≡◌, ◌+◌, ◌-◌, ◌≤◌, ◌<◌, max, ℕ, length, List, [], ◌∷◌, ◌++◌, take, drop, Option, None, Some, vec_capacity, OnOk, OnErr, IfOk};
-ghost use Rattle.rc_disk.specs.Calls.{Writes, Shortens, made, settled, image};
-ghost use Rattle.rc_disk.specs.Past.{call_of, fits, moved};
+ghost use Rattle.rc_disk.specs.Calls.{Writes, Shortens, made, all_synced, image};
+ghost use Rattle.rc_disk.specs.Past.{call_of, fits, images_moved};
 ghost use Rattle.rc_disk.specs.Memory.{HasRoom, images_of, inked};
 
 use crate::change::{Change, Event};
@@ -58,7 +58,7 @@ fn copy_over(bytes: &mut Vec<u8>, from: &[u8], clean: usize)
 impl FourImages {
     /// Images of nothing.
     pub fn new(alloc: Global) -> FourImages
-        ensures images { images_of result ≡ settled [] }
+        ensures images { images_of result ≡ all_synced [] }
         ensures room { HasRoom result 0 }
     {
         FourImages {
@@ -72,7 +72,7 @@ impl FourImages {
 
     /// Images of these bytes.
     pub fn of(alloc: Global, bytes: Vec<u8>) -> Result<FourImages, NoMemory>
-        ensures images { IfOk result (λ im. images_of im ≡ settled bytes.items) }
+        ensures images { IfOk result (λ im. images_of im ≡ all_synced bytes.items) }
         ensures room { IfOk result (λ im. HasRoom im 0) }
     {
         let synced = Vec::from_slice(alloc, &bytes)?;
@@ -107,7 +107,7 @@ impl FourImages {
 
     /// Nothing is on the disk.
     pub fn erase(&mut self)
-        ensures images { images_of self.new ≡ settled [] }
+        ensures images { images_of self.new ≡ all_synced [] }
         ensures room { HasRoom self.new 0 }
     {
         self.synced.clear();
@@ -145,7 +145,7 @@ impl FourImages {
     /// Leaves the image of a pick.
     fn settle(&mut self, pick: u8, spare: usize)
         requires room { HasRoom self.old spare }
-        ensures settled { images_of self.new ≡ settled (image pick (images_of self.old)) }
+        ensures all_synced { images_of self.new ≡ all_synced (image pick (images_of self.old)) }
         ensures room { HasRoom self.new spare }
     {
         let clean = self.clean;
@@ -188,7 +188,7 @@ impl FourImages {
         requires inside { fits (call_of event.change written.now) (length self.old.plain.items) }
         requires room { HasRoom self.old spare }
         requires spare { length written.now ≤ spare }
-        ensures moved { images_of self.new ≡ moved event written.now (images_of self.old) }
+        ensures images_moved { images_of self.new ≡ images_moved event written.now (images_of self.old) }
         ensures room { HasRoom self.new (spare - length written.now) }
     {
         self.make(event.change, written, spare);

@@ -5,7 +5,7 @@ ghost use Rattle.rc_ports.specs.Causes.{HasCause};
 ghost use Rattle.rc_disk.specs.Calls.{after, images_done, power_after, holds, cause_at, is_on, after_read};
 ghost use Rattle.rc_disk.specs.Counts.{HasCuts, AreCounted};
 ghost use Rattle.rc_disk.specs.Crashes.{TakesTime};
-ghost use Rattle.rc_disk.specs.Past.{IsKept, LeftSince, IsOne, Grows, call_of, count_of, fits, moved, one_now, one_only};
+ghost use Rattle.rc_disk.specs.Past.{IsKept, LeftSince, IsOne, Grows, call_of, count_of, fits, images_moved, one_now, one_only};
 ghost use Rattle.rc_disk.specs.Memory.{HasRoom, HasCalls, HasReads, HasPast, images_of, numbers_of, reads_of, history_of, verdict};
 ghost use Rattle.rc_disk.specs.Steps.{Steps};
 ghost use Rattle.rc_disk.specs.declared.change.Event.{Event as EventOf};
@@ -108,7 +108,7 @@ impl MemDisk {
         requires counted { count_of event.change ≡ length written.now }
         requires bytes { length written.now ≤ self.old.spare }
         requires calls { HasPast self.old.past (self.old.calls.spare + 1) self.old.spare }
-        ensures moved { images_of self.new.images ≡ moved event written.now (images_of self.old.images) }
+        ensures images_moved { images_of self.new.images ≡ images_moved event written.now (images_of self.old.images) }
         ensures grows { Grows (history_of self.old.past) event written.now (history_of self.new.past) }
         ensures calls { self.new.calls ≡ self.old.calls }
         ensures reads { self.new.reads ≡ self.old.reads }

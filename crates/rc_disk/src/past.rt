@@ -1,6 +1,6 @@
 // What a memory disk had, kept so that each moment of its past can be told.
 ghost use Rattle.std.specs.Prelude.{◌≡◌, ◌+◌, ◌-◌, ◌≤◌, ℕ, [], length, OnOk};
-ghost use Rattle.rc_disk.specs.Calls.{settled};
+ghost use Rattle.rc_disk.specs.Calls.{all_synced};
 ghost use Rattle.rc_disk.specs.Past.{Grows, IsKept, count_of};
 ghost use Rattle.rc_disk.specs.Memory.{HasPast, history_of};
 
@@ -20,7 +20,7 @@ impl Past {
     /// No change yet.
     pub fn new(alloc: Global, first: Vec<u8>) -> Past
         ensures room { HasPast result 0 0 }
-        ensures kept { IsKept (history_of result) (settled first.items) }
+        ensures kept { IsKept (history_of result) (all_synced first.items) }
     {
         Past {
             first,

@@ -4,6 +4,7 @@ pub mod Cluster
 pub mod Letters
 pub mod Marks
 pub mod Padded
+pub mod Parties
 pub mod Quorum
 pub mod Sets
 pub mod Tables

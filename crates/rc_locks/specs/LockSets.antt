@@ -87,7 +87,7 @@ without_all s ts = record {
     plain = cleared_all s.marks.plain ts;
     lost = cleared_all s.marks.lost ts;
     waiting = cleared_all s.marks.waiting ts;
-    place = s.marks.place;
+    cursor = s.marks.cursor;
   };
 }
 

@@ -51,7 +51,7 @@ fn ignores(parts: &[Prepared], marks: &LockMap, mark: &Spot) -> bool
 }
 
 impl LockTable for Locks {
-    ghost state = { λ l. record { parts = l.parts.items; marks = record { plain = plain_marks l.marks.entries; lost = lost_marks l.marks.entries; waiting = l.waiting.items; place = 0 } } };
+    ghost state = { λ l. record { parts = l.parts.items; marks = record { plain = plain_marks l.marks.entries; lost = lost_marks l.marks.entries; waiting = l.waiting.items; cursor = 0 } } };
 
     ghost has_room = { λ l tx part. (vec_len l.parts < vec_capacity l.parts) × IsRoomFor tx part l.cells.entries };
 

@@ -24,7 +24,7 @@ pub struct PlainLocks {
 }
 
 impl LockTable for PlainLocks {
-    ghost state = { λ l. record { parts = l.parts.items; marks = record { plain = l.plain.items; lost = l.lost.items; waiting = l.waiting.items; place = 0 } } };
+    ghost state = { λ l. record { parts = l.parts.items; marks = record { plain = l.plain.items; lost = l.lost.items; waiting = l.waiting.items; cursor = 0 } } };
 
     ghost has_room = { λ l tx part. (vec_len l.parts < vec_capacity l.parts) × (vec_len l.lost + vec_len l.plain ≤ vec_capacity l.lost) };
 

@@ -9,7 +9,7 @@ use Rattle.std.proofs.lemmas.Nat.{from_be_bytes-to_be_bytes_4}
 use Rattle.rc_fields.specs.declared.fault.FieldFault.{FieldFault}
 use Rattle.rc_fields.specs.declared.fault.FieldFault.TheVariants.{Short}
 use Rattle.rc_fields.specs.Spelling.{u32_bytes}
-use Rattle.rc_log.specs.Records.{frame_at, behind, framed, records_from, records, size_of, behind_gate}
+use Rattle.rc_log.specs.Records.{frame_at, with_front, framed, records_from, records, size_of, behind_gate}
 
 -- the bytes that are passed over have no meaning
 pub records_from-skip : (place skip : ℕ) (bytes : List ℕ) → records_from place skip bytes ≡ records_from place 0 (drop skip bytes)
@@ -103,11 +103,11 @@ frame_at-new r rest lt =
 
 -- an open gate with a whole frame behind it
 pub records_from-open : (place : ℕ) (bytes : List ℕ) (frame : List ℕ × List ℕ) → frame_at bytes ≡ Ok frame
-    → records_from place 0 (1 ∷ bytes) ≡ behind frame.0 (records_from (place + 5 + length frame.0) 0 frame.1)
+    → records_from place 0 (1 ∷ bytes) ≡ with_front frame.0 (records_from (place + 5 + length frame.0) 0 frame.1)
 records_from-open place bytes frame is =
     opened place bytes
     ∙ ap (λ (f : Result (List ℕ × List ℕ) FieldFault). framed place f (λ r. records_from (place + 5 + length r) (4 + length r) bytes)) is
-    ∙ ap (behind frame.0) (records_from-skip (place + 5 + length frame.0) (4 + length frame.0) bytes ∙ ap (records_from (place + 5 + length frame.0) 0) (has_frame bytes frame is).rest)
+    ∙ ap (with_front frame.0) (records_from-skip (place + 5 + length frame.0) (4 + length frame.0) bytes ∙ ap (records_from (place + 5 + length frame.0) 0) (has_frame bytes frame is).rest)
 
 -- an open gate with a frame that goes past the end
 pub records_from-broken : (place : ℕ) (bytes : List ℕ) (fault : FieldFault) → frame_at bytes ≡ Err fault → records_from place 0 (1 ∷ bytes) ≡ Err place
@@ -126,11 +126,11 @@ pub ahead-none : (found : Result (List (List ℕ)) ℕ) → ahead [] found ≡ f
 ahead-none (Ok more) = refl
 ahead-none (Err place) = refl
 
-pub ahead-push : (rs : List (List ℕ)) (r : List ℕ) (found : Result (List (List ℕ)) ℕ) → ahead (rs ++ r ∷ []) found ≡ ahead rs (behind r found)
+pub ahead-push : (rs : List (List ℕ)) (r : List ℕ) (found : Result (List (List ℕ)) ℕ) → ahead (rs ++ r ∷ []) found ≡ ahead rs (with_front r found)
 ahead-push rs r (Ok more) = ap (λ (l : List (List ℕ)). Ok l) (append_assoc rs (r ∷ []) more)
 ahead-push rs r (Err place) = refl
 
-ahead-cons : (r : List ℕ) (rs : List (List ℕ)) (found : Result (List (List ℕ)) ℕ) → behind r (ahead rs found) ≡ ahead (r ∷ rs) found
+ahead-cons : (r : List ℕ) (rs : List (List ℕ)) (found : Result (List (List ℕ)) ℕ) → with_front r (ahead rs found) ≡ ahead (r ∷ rs) found
 ahead-cons r rs (Ok more) = refl
 ahead-cons r rs (Err place) = refl
 
@@ -154,7 +154,7 @@ record First (r : List ℕ) (found : Result (List (List ℕ)) ℕ) (rs : List (L
   pub found_is : found ≡ Ok others
   pub all : rs ≡ r ∷ others
 
-first_of_found : (r : List ℕ) (found : Result (List (List ℕ)) ℕ) (rs : List (List ℕ)) → behind r found ≡ Ok rs → First r found rs
+first_of_found : (r : List ℕ) (found : Result (List (List ℕ)) ℕ) (rs : List (List ℕ)) → with_front r found ≡ Ok rs → First r found rs
 first_of_found r (Ok others) rs is = record { others = others; found_is = refl; all = cc }
 first_of_found r (Err place) rs is = absurd (cc)
 
@@ -167,9 +167,9 @@ joined k gate bytes front tail is =
     sym (take-append-drop k bytes) ∙ ap (λ (l : List ℕ). take k bytes ++ l) is ∙ sym (append_assoc (take k bytes) front (gate ∷ tail))
 
 whole_frame : (place gate : ℕ) (bytes : List ℕ) (frame : List ℕ × List ℕ) (rs : List (List ℕ)) → frame_at bytes ≡ Ok frame → gate ≡ 1 → records_from place 0 (gate ∷ bytes) ≡ Ok rs
-    → behind frame.0 (records_from (place + 5 + length frame.0) (4 + length frame.0) bytes) ≡ Ok rs
+    → with_front frame.0 (records_from (place + 5 + length frame.0) (4 + length frame.0) bytes) ≡ Ok rs
 whole_frame place gate bytes frame rs at is_open is =
-    ap (behind frame.0) (records_from-skip (place + 5 + length frame.0) (4 + length frame.0) bytes ∙ ap (records_from (place + 5 + length frame.0) 0) (has_frame bytes frame at).rest)
+    ap (with_front frame.0) (records_from-skip (place + 5 + length frame.0) (4 + length frame.0) bytes ∙ ap (records_from (place + 5 + length frame.0) 0) (has_frame bytes frame at).rest)
     ∙ sym (records_from-open place bytes frame at) ∙ ap (λ (g : ℕ). records_from place 0 (g ∷ bytes)) (sym is_open) ∙ is
 
 fronts_cons : (bytes : List ℕ) (frame : List ℕ × List ℕ) (front : List ℕ) (rs : List (List ℕ)) → frame_at bytes ≡ Ok frame → Fronts front rs
@@ -181,7 +181,7 @@ fronts_cons bytes frame front rs is fronts =
       goes_on = λ place rest.
           ap (λ (l : List ℕ). records_from place 0 (1 ∷ l)) (append_assoc part front rest)
           ∙ records_from-open place (part ++ (front ++ rest)) (frame.0, front ++ rest) (frame_at-local bytes frame (front ++ rest) is)
-          ∙ ap (behind frame.0) (fronts.goes_on (place + 5 + n) rest)
+          ∙ ap (with_front frame.0) (fronts.goes_on (place + 5 + n) rest)
           ∙ ahead-cons frame.0 rs (records_from (place + 5 + n + size_of rs) 0 rest)
           ∙ ap (λ (p : ℕ). ahead (frame.0 ∷ rs) (records_from p 0 rest)) (omega (arith, size_of-cons frame.0 rs));
       size = omega (arith, length-append part front, length-take-le (4 + n) bytes (has_frame bytes frame is).long, fronts.size, size_of-cons frame.0 rs);

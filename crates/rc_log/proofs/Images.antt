@@ -5,7 +5,7 @@ use Rattle.std.proofs.lemmas.Bool.Decides.{nat_tests}
 use Rattle.std.proofs.lemmas.List.{append-nil, take_at, drop_at, length-append}
 use Rattle.rc_fields.specs.Spelling.{u32_bytes}
 use Rattle.rc_disk.specs.Calls.{effect, Writes}
-use Rattle.rc_log.specs.Records.{records, size_of, behind, behind_gate}
+use Rattle.rc_log.specs.Records.{records, size_of, with_front, behind_gate}
 use Rattle.rc_log.specs.Append.{with_or_without}
 use Rattle.rc_log.proofs.Frames.{Parts, ahead, frame_at-new, records_from-shut, records_from-open}
 
@@ -58,7 +58,7 @@ module _ (c : List ℕ) (rs : List (List ℕ)) (r : List ℕ) (place : ℕ) (par
       ap (λ (l : List ℕ). records (parts.front ++ 1 ∷ l)) frame_is
       ∙ parts.fronts.goes_on 0 (1 ∷ (u32_bytes (length r) ++ (r ++ 0 ∷ tail)))
       ∙ ap (ahead rs) (records_from-open (0 + size_of rs) (u32_bytes (length r) ++ (r ++ 0 ∷ tail)) (r, 0 ∷ tail) (frame_at-new r (0 ∷ tail) short)
-      ∙ ap (behind r) (records_from-shut (0 + size_of rs + 5 + length r) 0 tail (omega arith)))
+      ∙ ap (with_front r) (records_from-shut (0 + size_of rs + 5 + length r) 0 tail (omega arith)))
 
   -- with any byte in the place of the gate
   pub gated : (m : ℕ) → records (take place staged ++ (m ∷ []) ++ drop (place + 1) staged) ≡ Ok (with_or_without (m == 1) rs r)

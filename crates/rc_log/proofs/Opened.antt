@@ -4,7 +4,7 @@ use Rattle.std.specs.Option.{ForSome}
 use Rattle.std.proofs.lemmas.Bool.Decides.{nat_tests}
 use Rattle.rc_ports.specs.Causes.{Rose}
 use Rattle.rc_disk.specs.declared.power.Power.{Power}
-use Rattle.rc_disk.specs.Calls.{Told, Numbers, Syncs, did, after, after_read, read_failed, power_after, cause_at}
+use Rattle.rc_disk.specs.Calls.{Told, Numbers, Syncs, after_done, after, after_read, read_failed, power_after, cause_at}
 use Rattle.rc_disk.specs.Counts.{AreCounted, read_cause}
 use Rattle.rc_log.specs.Records.{records}
 use Rattle.rc_log.specs.Append.{listed, listed_in, AreStill, numbers_of, counted_by, stopped_by, power_past}
@@ -60,7 +60,7 @@ all_read zero None synced now is next = next ∙ ap (option_map (read_or_none 0 
 all_read zero (Some t) synced now is next = next ∙ ap (option_map (read_or_none 0 true)) is
 all_read (suc len) None synced now is next = next ∙ ap (option_map (read_or_none (suc len) true)) is
 all_read (suc len) (Some t) synced now is next =
-    next ∙ ap (option_map (read_or_none (suc len) true)) is ∙ ap (λ (b : Bool). Some (if b then did Syncs t else after_read true (did Syncs t))) (not_zero len)
+    next ∙ ap (option_map (read_or_none (suc len) true)) is ∙ ap (λ (b : Bool). Some (if b then after_done Syncs t else after_read true (after_done Syncs t))) (not_zero len)
 
 pub one_sync : (len : ℕ) (p : Power) → power_past (syncs_in (calls_of_all len)) p ≡ power_after p
 one_sync zero p = refl

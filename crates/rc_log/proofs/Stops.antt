@@ -6,7 +6,7 @@ use Rattle.std.proofs.lemmas.List.Sums.{sum_by-append}
 use Rattle.rc_disk.specs.declared.power.Power.{Power}
 use Rattle.rc_disk.specs.declared.power.Cause.{Cause}
 use Rattle.rc_disk.specs.declared.power.Cause.TheVariants.{ByList, ByCut, WhileOff}
-use Rattle.rc_disk.specs.Calls.{Told, Images, Numbers, Call, Writes, Syncs, effect, filled, image, made, settled, seen, images_failed, did, after, cause_at, power_after}
+use Rattle.rc_disk.specs.Calls.{Told, Images, Numbers, Call, Writes, Syncs, effect, filled, image, made, all_synced, read_bytes, images_failed, after_done, after, cause_at, power_after}
 use Rattle.rc_disk.specs.Counts.{AreCounted}
 use Rattle.rc_log.specs.Records.{records, size_of, behind_gate}
 use Rattle.rc_log.specs.Append.{listed, listed_in, IsSettled, FailedAt, AreStill, append_calls, all_done, stopped_at, numbers_of, counted_by, stopped_by, power_past, cause_of_call, keeps, with_or_without}
@@ -48,28 +48,28 @@ module _ (c : List ℕ) (rs : List (List ℕ)) (r : List ℕ) (place : ℕ) (who
   pub with_gate : (m : ℕ) → records (effect (Writes place (m ∷ [])) c1) ≡ Ok (with_or_without (m == 1) rs r)
   with_gate m = gated c rs r place parts at short m
 
-  first_image : (pick : ℕ) → records (image pick (made first (settled c))) ≡ Ok rs
-  first_image pick = picked (made first (settled c)) (λ (t : Bool). rs) pick whole (behind_shut (behind_gate r)) (behind_shut (filled 1 (behind_gate r))) (behind_shut (filled 255 (behind_gate r)))
+  first_image : (pick : ℕ) → records (image pick (made first (all_synced c))) ≡ Ok rs
+  first_image pick = picked (made first (all_synced c)) (λ (t : Bool). rs) pick whole (behind_shut (behind_gate r)) (behind_shut (filled 1 (behind_gate r))) (behind_shut (filled 255 (behind_gate r)))
 
-  gate_image : (pick : ℕ) → records (image pick (made gate (settled c1))) ≡ Ok (with_or_without ((pick == 1) || (pick == 3)) rs r)
-  gate_image pick = picked (made gate (settled c1)) (λ (t : Bool). with_or_without t rs r) pick (behind_shut (behind_gate r)) (with_gate 1) (with_gate 1) (with_gate 255)
+  gate_image : (pick : ℕ) → records (image pick (made gate (all_synced c1))) ≡ Ok (with_or_without ((pick == 1) || (pick == 3)) rs r)
+  gate_image pick = picked (made gate (all_synced c1)) (λ (t : Bool). with_or_without t rs r) pick (behind_shut (behind_gate r)) (with_gate 1) (with_gate 1) (with_gate 255)
 
-  pub kept1 : (cause : Cause) → records (images_failed cause first (settled c)).plain ≡ Ok (with_or_without (keeps 1 cause) rs r)
+  pub kept1 : (cause : Cause) → records (images_failed cause first (all_synced c)).plain ≡ Ok (with_or_without (keeps 1 cause) rs r)
   kept1 ByList = whole
   kept1 (ByCut pick) = first_image pick
   kept1 WhileOff = whole
 
-  pub kept2 : (cause : Cause) → records (images_failed cause Syncs (made first (settled c))).plain ≡ Ok (with_or_without (keeps 2 cause) rs r)
+  pub kept2 : (cause : Cause) → records (images_failed cause Syncs (made first (all_synced c))).plain ≡ Ok (with_or_without (keeps 2 cause) rs r)
   kept2 ByList = behind_shut (behind_gate r)
   kept2 (ByCut pick) = first_image pick
   kept2 WhileOff = behind_shut (behind_gate r)
 
-  pub kept3 : (cause : Cause) → records (images_failed cause gate (settled c1)).plain ≡ Ok (with_or_without (keeps 3 cause) rs r)
+  pub kept3 : (cause : Cause) → records (images_failed cause gate (all_synced c1)).plain ≡ Ok (with_or_without (keeps 3 cause) rs r)
   kept3 ByList = behind_shut (behind_gate r)
   kept3 (ByCut pick) = gate_image pick
   kept3 WhileOff = behind_shut (behind_gate r)
 
-  pub kept4 : (cause : Cause) → records (images_failed cause Syncs (made gate (settled c1))).plain ≡ Ok (with_or_without (keeps 4 cause) rs r)
+  pub kept4 : (cause : Cause) → records (images_failed cause Syncs (made gate (all_synced c1))).plain ≡ Ok (with_or_without (keeps 4 cause) rs r)
   kept4 ByList = with_gate 1
   kept4 (ByCut pick) = gate_image pick
   kept4 WhileOff = with_gate 1
@@ -98,10 +98,10 @@ still_one c f f' k k' done = record { same_faults = done.all_faults; same_cuts =
 -- a call fails
 stop : (content : Option (List ℕ)) (ml : List ℕ → Type 0) (before now : Option Told) (len place : ℕ) (r : List ℕ) (n f f' k k' : ℕ) (p p' : Power) (cause_of : Power → Cause)
     → IfSome before (λ t. t.power ≡ p) → AreCounted (cause_of p) false f f' k k' → cause_of_call n p ≡ cause_of p → p' ≡ power_past n p
-    → IsSettled content ml before len place → IfSome before (λ t. content ≡ Some (seen t)) → 1 ≤ n → n ≤ 4
+    → IsSettled content ml before len place → IfSome before (λ t. content ≡ Some (read_bytes t)) → 1 ≤ n → n ≤ 4
     → now ≡ option_map (stopped_at n (append_calls place r)) before
     → ((t : Told) → (stopped_at n (append_calls place r) t).numbers ≡ stopped_by n (cause_of t.power) t.numbers)
-    → ((c : List ℕ) → records c ≡ Ok (listed c) → place ≡ size_of (listed c) → (t : Told) → t.images ≡ settled c → records (seen (stopped_at n (append_calls place r) t)) ≡ Ok (with_or_without (keeps n (cause_of t.power)) (listed c) r))
+    → ((c : List ℕ) → records c ≡ Ok (listed c) → place ≡ size_of (listed c) → (t : Told) → t.images ≡ all_synced c → records (read_bytes (stopped_at n (append_calls place r) t)) ≡ Ok (with_or_without (keeps n (cause_of t.power)) (listed c) r))
     → FailedAt before now (Some p) (Some p') (option_map listed content) place r f f' k k'
 stop content ml None now len place r n f f' k k' p p' cause_of told_power counts reason past s law low high is numbers kept = record {
   call = n;
@@ -113,13 +113,13 @@ stop content ml None now len place r n f f' k k' p p' cause_of told_power counts
   whole_state = is;
   counts = counts;
   numbers = ap numbers_of is;
-  kept = subst (λ (o : Option Told). IfSome o (λ t. IfSome (option_map listed content) (λ rs. records (seen t) ≡ Ok (with_or_without (keeps n (cause_of p)) rs r)))) (sym is) tt;
+  kept = subst (λ (o : Option Told). IfSome o (λ t. IfSome (option_map listed content) (λ rs. records (read_bytes t) ≡ Ok (with_or_without (keeps n (cause_of p)) rs r)))) (sym is) tt;
 }
 stop content ml (Some t) now len place r n f f' k k' p p' cause_of told_power counts reason past s law low high is numbers kept =
     let c = t.images.plain in
     let whole : records c ≡ Ok (listed c) = s.whole c law in
     let at : place ≡ size_of (listed c) = s.place_is c law in
-    let left : records (seen (stopped_at n (append_calls place r) t)) ≡ Ok (with_or_without (keeps n (cause_of p)) (listed c) r) =
+    let left : records (read_bytes (stopped_at n (append_calls place r) t)) ≡ Ok (with_or_without (keeps n (cause_of p)) (listed c) r) =
     kept c whole at t (s.synced t refl) ∙ ap (λ (q : Power). Ok (with_or_without (keeps n (cause_of q)) (listed c) r)) told_power in
     record {
       call = n;
@@ -131,8 +131,8 @@ stop content ml (Some t) now len place r n f f' k k' p p' cause_of told_power co
       whole_state = is;
       counts = counts;
       numbers = ap numbers_of is ∙ ap Some (numbers t ∙ ap (λ (q : Power). stopped_by n (cause_of q) t.numbers) told_power);
-      kept = subst (λ (o : Option Told). IfSome o (λ u. IfSome (option_map listed content) (λ rs. records (seen u) ≡ Ok (with_or_without (keeps n (cause_of p)) rs r)))) (sym is)
-          (subst (λ (o : Option (List ℕ)). IfSome (option_map listed o) (λ rs. records (seen (stopped_at n (append_calls place r) t)) ≡ Ok (with_or_without (keeps n (cause_of p)) rs r))) (sym law) left);
+      kept = subst (λ (o : Option Told). IfSome o (λ u. IfSome (option_map listed content) (λ rs. records (read_bytes u) ≡ Ok (with_or_without (keeps n (cause_of p)) rs r)))) (sym is)
+          (subst (λ (o : Option (List ℕ)). IfSome (option_map listed o) (λ rs. records (read_bytes (stopped_at n (append_calls place r) t)) ≡ Ok (with_or_without (keeps n (cause_of p)) rs r))) (sym law) left);
     }
 
 unfoldable pub with_calls : ℕ → Cause → Numbers → Numbers
@@ -142,7 +142,7 @@ pub counted_as : (calls k : ℕ) (cause : Cause) (n : Numbers) → calls ≡ n.c
 unfolding with_calls
 counted_as calls k cause n is = ap (λ (m : ℕ). with_calls m cause n) is
 
-module _ (content : Option (List ℕ)) (ml : List ℕ → Type 0) (before now : Option Told) (len place : ℕ) (r : List ℕ) (s : IsSettled content ml before len place) (law : IfSome before (λ t. content ≡ Some (seen t))) (short : length r < 2 ^ 32) (p p' : Power) (told_power : IfSome before (λ t. t.power ≡ p)) (f f' k k' : ℕ) where
+module _ (content : Option (List ℕ)) (ml : List ℕ → Type 0) (before now : Option Told) (len place : ℕ) (r : List ℕ) (s : IsSettled content ml before len place) (law : IfSome before (λ t. content ≡ Some (read_bytes t))) (short : length r < 2 ^ 32) (p p' : Power) (told_power : IfSome before (λ t. t.power ≡ p)) (f f' k k' : ℕ) where
   abbrev Fails : Type 0
   Fails = FailedAt before now (Some p) (Some p') (option_map listed content) place r f f' k k'
 
@@ -176,7 +176,7 @@ module _ (content : Option (List ℕ)) (ml : List ℕ → Type 0) (before now : 
       refl (three.power ∙ ap power_after past2) s law (omega arith) (omega arith)
       (three.told ∙ ap (option_map (after open_gate false)) (two.told ∙ ap (option_map (after Syncs true)) one.told ∙ fuse _ _ before) ∙ fuse _ _ before)
       (λ t. counted_as (t.numbers.calls + 1 + 1 + 1) 3 (cause_at (power_after (power_after t.power))) t.numbers (omega arith))
-      (λ c whole at t im. ap (λ (i : Images). records (images_failed (cause_at (power_after (power_after t.power))) open_gate (settled (made write i).plain)).plain) im
+      (λ c whole at t im. ap (λ (i : Images). records (images_failed (cause_at (power_after (power_after t.power))) open_gate (all_synced (made write i).plain)).plain) im
       ∙ kept3 c (listed c) r place whole at short (cause_at (power_after (power_after t.power))))
 
   pub fails4 : (o1 o2 o3 : Option Told) (p1 p2 p3 : Power) (f1 f2 f3 k1 k2 k3 : ℕ) → Went true write before o1 p p1 f f1 k k1 → Went true Syncs o1 o2 p1 p2 f1 f2 k1 k2 → Went true open_gate o2 o3 p2 p3 f2 f3 k2 k3
@@ -189,7 +189,7 @@ module _ (content : Option (List ℕ)) (ml : List ℕ → Type 0) (before now : 
       refl (four.power ∙ ap power_after past3) s law (omega arith) (omega arith)
       (four.told ∙ ap (option_map (after Syncs false)) (three.told ∙ ap (option_map (after open_gate true)) (two.told ∙ ap (option_map (after Syncs true)) one.told ∙ fuse _ _ before) ∙ fuse _ _ before) ∙ fuse _ _ before)
       (λ t. counted_as (t.numbers.calls + 1 + 1 + 1 + 1) 4 (cause_at (power_after (power_after (power_after t.power)))) t.numbers (omega arith))
-      (λ c whole at t im. ap (λ (i : Images). records (images_failed (cause_at (power_after (power_after (power_after t.power)))) Syncs (made open_gate (settled (made write i).plain))).plain) im
+      (λ c whole at t im. ap (λ (i : Images). records (images_failed (cause_at (power_after (power_after (power_after t.power)))) Syncs (made open_gate (all_synced (made write i).plain))).plain) im
       ∙ kept4 c (listed c) r place whole at short (cause_at (power_after (power_after (power_after t.power)))))
 
 pub whole_run : (before now o1 o2 o3 : Option Told) (place : ℕ) (r : List ℕ) → o1 ≡ option_map (after (Writes (place + 1) (behind_gate r)) true) before → o2 ≡ option_map (after Syncs true) o1
@@ -206,12 +206,12 @@ all_counted None now place r is = ap numbers_of is
 all_counted (Some t) now place r is = ap numbers_of is ∙ ap (λ (m : ℕ). Some (with_sum m t.numbers)) (omega arith)
 
 -- after a sync nothing is pending
-pub nothing_pending : (o now : Option Told) → now ≡ option_map (after Syncs true) o → ForSome now (λ t. t.images ≡ settled t.images.plain)
-nothing_pending o now is = subst (λ (x : Option Told). ForSome x (λ t. t.images ≡ settled t.images.plain)) (sym is) (at_sync o)
+pub nothing_pending : (o now : Option Told) → now ≡ option_map (after Syncs true) o → ForSome now (λ t. t.images ≡ all_synced t.images.plain)
+nothing_pending o now is = subst (λ (x : Option Told). ForSome x (λ t. t.images ≡ all_synced t.images.plain)) (sym is) (at_sync o)
   where
-    at_sync : (o : Option Told) → ForSome (option_map (after Syncs true) o) (λ t. t.images ≡ settled t.images.plain)
+    at_sync : (o : Option Told) → ForSome (option_map (after Syncs true) o) (λ t. t.images ≡ all_synced t.images.plain)
     at_sync None t is = absurd (cc)
-    at_sync (Some u) t is = let same : did Syncs u ≡ t = cc in subst (λ (v : Told). v.images ≡ settled v.images.plain) same refl
+    at_sync (Some u) t is = let same : after_done Syncs u ≡ t = cc in subst (λ (v : Told). v.images ≡ all_synced v.images.plain) same refl
 
 -- an append that was done
 pub record Grew (old new : Option (List ℕ)) (place : ℕ) (r : List ℕ) : Type 0 where

@@ -4,7 +4,7 @@ use Rattle.std.specs.Option.{option_map, ForSome}
 use Rattle.rc_disk.specs.declared.power.Power.{Power}
 use Rattle.rc_disk.specs.declared.power.Cause.{Cause}
 use Rattle.rc_disk.specs.declared.power.Cause.TheVariants.{ByList, ByCut, WhileOff}
-use Rattle.rc_disk.specs.Calls.{Told, Numbers, Call, Writes, Syncs, seen, settled, did, failed_to, power_after, cause_at}
+use Rattle.rc_disk.specs.Calls.{Told, Numbers, Call, Writes, Syncs, read_bytes, all_synced, after_done, after_failed, power_after, cause_at}
 use Rattle.rc_disk.specs.Counts.{AreCounted}
 use Rattle.rc_disk.specs.Crashes.{IsDurable}
 use Rattle.rc_log.specs.Records.{records, size_of, behind_gate}
@@ -29,14 +29,14 @@ create_calls = Writes 0 (0 ∷ []) ∷ Syncs ∷ []
 -- all of these calls are done
 abbrev pub all_done : List Call → Told → Told
 all_done [] t = t
-all_done (call ∷ calls) t = all_done calls (did call t)
+all_done (call ∷ calls) t = all_done calls (after_done call t)
 
 -- the call of this number, counted from 1, fails, and those before it are done
 abbrev pub stopped_at : ℕ → List Call → Told → Told
 stopped_at zero calls t = t
 stopped_at (suc n) [] t = t
-stopped_at (suc zero) (call ∷ calls) t = failed_to call t
-stopped_at (suc (suc n)) (call ∷ calls) t = stopped_at (suc n) calls (did call t)
+stopped_at (suc zero) (call ∷ calls) t = after_failed call t
+stopped_at (suc (suc n)) (call ∷ calls) t = stopped_at (suc n) calls (after_done call t)
 
 -- NUMBERS
 
@@ -90,7 +90,7 @@ pub record IsSettled (content : Option (List ℕ)) (may_leave : List ℕ → Typ
   pub place_is : ForSome content (λ c. place ≡ size_of (listed c))
   pub inside : place + 1 ≤ len
   pub durable : IsDurable content may_leave
-  pub synced : ForSome told (λ t. t.images ≡ settled t.images.plain)
+  pub synced : ForSome told (λ t. t.images ≡ all_synced t.images.plain)
 
 -- no count of a disk moved
 pub record AreStill (faults faults_now cuts cuts_now : ℕ) : Type 0 where
@@ -108,4 +108,4 @@ pub record FailedAt (before now : Option Told) (power power_now : Option Power) 
   pub whole_state : now ≡ option_map (stopped_at call (append_calls place r)) before
   pub counts : AreCounted cause false faults faults_now cuts cuts_now
   pub numbers : numbers_of now ≡ option_map (stopped_by call cause) (numbers_of before)
-  pub kept : IfSome now (λ t. IfSome old (λ rs. records (seen t) ≡ Ok (with_or_without (keeps call cause) rs r)))
+  pub kept : IfSome now (λ t. IfSome old (λ rs. records (read_bytes t) ≡ Ok (with_or_without (keeps call cause) rs r)))

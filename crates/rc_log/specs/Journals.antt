@@ -29,8 +29,8 @@ passes None len = false
 passes (Some limit) len = nat_lt limit len
 
 -- a record of so many bytes would make the log longer than its limit
-abbrev pub is_full : State → ℕ → Bool
-is_full s n = passes s.limit (s.size + 6 + n)
+abbrev pub would_pass_limit : State → ℕ → Bool
+would_pass_limit s n = passes s.limit (s.size + 6 + n)
 
 -- an append that was done
 pub record Appends (old new : State) (r : List ℕ) : Type 0 where

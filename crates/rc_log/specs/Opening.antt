@@ -4,7 +4,7 @@ use Rattle.std.specs.Option.{option_map}
 use Rattle.rc_ports.specs.Causes.{Rose}
 use Rattle.rc_disk.specs.declared.power.Power.{Power}
 use Rattle.rc_disk.specs.declared.power.Cause.{Cause}
-use Rattle.rc_disk.specs.Calls.{Told, Numbers, Reads, Syncs, did, failed_to, after_read, read_done, read_failed, power_after, cause_at}
+use Rattle.rc_disk.specs.Calls.{Told, Numbers, Reads, Syncs, after_done, after_failed, after_read, read_done, read_failed, power_after, cause_at}
 use Rattle.rc_disk.specs.Counts.{AreCounted, read_cause}
 use Rattle.rc_log.specs.Records.{records}
 use Rattle.rc_log.specs.Append.{AreStill, create_calls, stopped_at, stopped_by, numbers_of, counted_by, power_past, cause_of_call}
@@ -33,18 +33,18 @@ IsNoBegin (Damaged place) before now power power_now faults faults_now cuts cuts
 
 -- after the sync, and the one read, of an opening
 abbrev pub synced_and_read : Bool → Told → Told
-synced_and_read ok t = after_read ok (did Syncs t)
+synced_and_read ok t = after_read ok (after_done Syncs t)
 
 -- so many of the two are done
 abbrev pub opened_by : ℕ → Told → Told
 opened_by zero t = t
-opened_by (suc zero) t = did Syncs t
+opened_by (suc zero) t = after_done Syncs t
 opened_by (suc (suc n)) t = synced_and_read true t
 
 -- the one of this number, counted from 1, fails, and the one before it is done
 abbrev pub refused_at : ℕ → Told → Told
 refused_at zero t = t
-refused_at (suc zero) t = failed_to Syncs t
+refused_at (suc zero) t = after_failed Syncs t
 refused_at (suc (suc n)) t = synced_and_read false t
 
 abbrev pub refusal_cause : ℕ → Power → Cause

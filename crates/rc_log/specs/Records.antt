@@ -9,13 +9,13 @@ abbrev pub frame_at : List ℕ → Result (List ℕ × List ℕ) FieldFault
 frame_at bytes = u32_at bytes >>= λ n. bytes_at n.0 n.1
 
 -- one record more at the front
-abbrev pub behind : List ℕ → Result (List (List ℕ)) ℕ → Result (List (List ℕ)) ℕ
-behind r (Ok rs) = Ok (r ∷ rs)
-behind r (Err place) = Err place
+abbrev pub with_front : List ℕ → Result (List (List ℕ)) ℕ → Result (List (List ℕ)) ℕ
+with_front r (Ok rs) = Ok (r ∷ rs)
+with_front r (Err place) = Err place
 
 -- a frame and what follows it, or the place of its gate where it goes past the end
 abbrev pub framed : ℕ → Result (List ℕ × List ℕ) FieldFault → (List ℕ → Result (List (List ℕ)) ℕ) → Result (List (List ℕ)) ℕ
-framed place (Ok frame) next = behind frame.0 (next frame.0)
+framed place (Ok frame) next = with_front frame.0 (next frame.0)
 framed place (Err fault) next = Err place
 
 -- The records of the bytes behind the first so many, where a gate stands at the place. A gate is open where it is 1;

@@ -3,7 +3,7 @@ ghost use Rattle.std.specs.Prelude.{◌≡◌, ◌↔◌, ◌<◌, ◌≤◌, �
 ghost use Rattle.rc_disk.specs.Crashes.{AddsNone, TakesTime, AtEachMoment};
 ghost use Rattle.rc_log.specs.Records.{size_of};
 ghost use Rattle.rc_log.specs.Append.{Leaves, LeavesEither};
-ghost use Rattle.rc_log.specs.Journals.{State, Appends, Fails, is_full, with_cut};
+ghost use Rattle.rc_log.specs.Journals.{State, Appends, Fails, would_pass_limit, with_cut};
 
 use crate::AppendFault;
 use rc_ids::NoMemory;
@@ -43,7 +43,7 @@ pub trait Journal: Drop {
         ensures failed { IsErrOf result AppendFault.Failed → Fails (state self.old) (state self.new) bytes.now }
         ensures either { IsErrOf result AppendFault.Failed → (left : List ℕ) → may_leave self.new left → LeavesEither (state self.old).records bytes.now left }
 
-        ensures full { IsErrOf result AppendFault.Full ↔ IsTrue (is_full (state self.old) (length bytes.now)) }
+        ensures full { IsErrOf result AppendFault.Full ↔ IsTrue (would_pass_limit (state self.old) (length bytes.now)) }
         ensures full_same { IsErrOf result AppendFault.Full → state self.new ≡ state self.old }
         ensures no_memory { IsErrOf result AppendFault.NoMemory → spare self.old ≤ length bytes.now }
         ensures no_memory_same { IsErrOf result AppendFault.NoMemory → state self.new ≡ state self.old }

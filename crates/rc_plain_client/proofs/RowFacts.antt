@@ -5,9 +5,9 @@ use Rattle.rc_ids.specs.Cluster.{Layout, is_dc, is_quorum}
 use Rattle.rc_body.specs.declared.decision.Decision.{Decision}
 use Rattle.rc_msg.specs.declared.msg.Msg.TheVariants.{Voted}
 use Rattle.rc_report.specs.declared.line.Line.{Line}
-use Rattle.rc_protocol.specs.Messages.{Sends}
+use Rattle.rc_protocol.specs.Messages.{Posts}
 use Rattle.rc_protocol.specs.Coordinator.{is_decided_by}
-use Rattle.rc_protocol.specs.Client.{Client, ClientAct, Slot, Grant, slot_of, reads_on, wants_grant, with_grant, granted_by, prints_of, completes, takes_grant, on_granted, is_over, client_stays, learns, with_vote, on_voted, client_row}
+use Rattle.rc_protocol.specs.Client.{Client, ClientAct, Slot, Grant, slot_of, reads_on, wants_grant, with_grant, granted_by, prints_of, completes, takes_grant, on_granted, is_over, client_stays, client_learns, with_vote, on_voted, client_row}
 use Rattle.rc_plain_client.specs.Acts.{completes_at, Does}
 use Rattle.rc_plain_client.proofs.SlotFacts.{slot_of-key}
 
@@ -29,7 +29,7 @@ on_granted-completes c t x k s g grants prints on found wants is holds says =
 
 -- what a client does at a vote, whether it is done already, and whether the vote decides
 abbrev voted : ℕ → Client → Client → Decision → Bool → Bool → ClientAct
-voted t x y o over decides = cond over (client_stays x) (cond decides (learns t y o) (client_stays y))
+voted t x y o over decides = cond over (client_stays x) (cond decides (client_learns t y o) (client_stays y))
 
 voted-rest : (t : ℕ) (x y : Client) (o : Decision) (over decides : Bool)
     → ((voted t x y o over decides).sends ≡ []) × ((voted t x y o over decides).refused ≡ None)
@@ -41,7 +41,7 @@ voted-rest t x y o false false = (refl, refl)
 on_voted-rest : (c : Layout) (t : ℕ) (x : Client) (b d : ℕ) (o : Decision) → ((on_voted c t x b d o).sends ≡ []) × ((on_voted c t x b d o).refused ≡ None)
 on_voted-rest c t x b d o = voted-rest t x (with_vote x b d o) o (is_over x.phase) (is_decided_by c x.votes b d o)
 
-on_voted-does : (c : Layout) (t : ℕ) (x after : Client) (b d : ℕ) (o : Decision) (out : Sends) (printed lines : List Line)
+on_voted-does : (c : Layout) (t : ℕ) (x after : Client) (b d : ℕ) (o : Decision) (out : Posts) (printed lines : List Line)
     → after ≡ (on_voted c t x b d o).after → lines ≡ printed ++ (on_voted c t x b d o).lines
     → Does (on_voted c t x b d o) after out out printed lines
 on_voted-does c t x after b d o out printed lines state says =
@@ -49,7 +49,7 @@ on_voted-does c t x after b d o out printed lines state says =
     record { state = state; sends = sym (append-nil out) ∙ ap (λ ms. out ++ ms) (sym rest.0); lines = says; taken = rest.1 }
 
 -- a vote on the transaction, of a datacentre of the world
-pub voted-row : (c : Layout) (t u : ℕ) (x after : Client) (b d : ℕ) (o : Decision) (out : Sends) (printed lines : List Line)
+pub voted-row : (c : Layout) (t u : ℕ) (x after : Client) (b d : ℕ) (o : Decision) (out : Posts) (printed lines : List Line)
     → ((u == t) && is_dc c d) ≡ true → after ≡ (on_voted c t x b d o).after → lines ≡ printed ++ (on_voted c t x b d o).lines
     → Does (client_row c t x (Voted u b d o)) after out out printed lines
 voted-row c t u x after b d o out printed lines inside state says =

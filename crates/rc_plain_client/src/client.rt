@@ -1,7 +1,7 @@
 // A client.
 ghost use Rattle.std.specs.Prelude.{◌≡◌, ◌<◌, [], ◌∷◌, ◌++◌, ◌==◌, ◌&&◌, true, false, length, None, Some, OnOk, IsErrOf, if◌then◌else◌};
 ghost use Rattle.rc_ids.specs.Cluster.{is_dc as is_dc_lem};
-ghost use Rattle.rc_protocol.specs.Client.{new_client, is_open as is_open_lem, slot_of, do_read, do_write, do_commit, do_cancel, do_retry, do_vanish, client_row, drops_read, proposes_again, asks_again, waiting_keys, is_proposed, reads_on, asks_new, reads_slot, proposes, goes_on, on_granted, on_voted, on_refused, on_decided, learns, gives_up, is_full as is_full_lem, KeyWornOut as IsWornOut};
+ghost use Rattle.rc_protocol.specs.Client.{new_client, is_open as is_open_lem, slot_of, do_read, do_write, do_commit, do_cancel, do_retry, do_vanish, client_row, drops_read, proposes_again, asks_again, waiting_keys, is_proposed, reads_on, asks_new, reads_slot, proposes, proposes_once_read, on_granted, on_voted, on_refused, on_decided, client_learns, gives_up, is_out_of_slots as is_full_lem, KeyWornOut as IsWornOut};
 ghost use Rattle.rc_plain_client.specs.Acts.{Says, Does, completes_at};
 ghost use Rattle.rc_plain_client.specs.Phases.{phase_of};
 ghost use Rattle.rc_plain_client.specs.Slots.{waits_at};
@@ -297,8 +297,8 @@ impl Client {
 
     /// Proposes, where the client commits and waits for no read.
     fn go_on(&mut self, cluster: &Cluster, tx: TxId, out: &mut Messages) -> Result<(), ClientFault>
-        ensures done { OnOk result (Says (goes_on cluster.now tx self.old) self.new out.old out.new) }
-        ensures worn { IsErrOf result KeyWornOut → (goes_on cluster.now tx self.old).refused ≡ Some IsWornOut }
+        ensures done { OnOk result (Says (proposes_once_read cluster.now tx self.old) self.new out.old out.new) }
+        ensures worn { IsErrOf result KeyWornOut → (proposes_once_read cluster.now tx self.old).refused ≡ Some IsWornOut }
     {
         if self.phase.is_committing() && !self.slots.wait() {
             return self.propose(cluster, tx, out);
@@ -364,7 +364,7 @@ impl Client {
 
     /// Learns the outcome.
     fn learn(&mut self, tx: TxId, decision: &Decision, lines: &mut Lines) -> Result<(), NoMemory>
-        ensures { OnOk result ((self.new ≡ (learns tx self.old decision.now).after) × (lines.new ≡ lines.old ++ (learns tx self.old decision.now).lines)) }
+        ensures { OnOk result ((self.new ≡ (client_learns tx self.old decision.now).after) × (lines.new ≡ lines.old ++ (client_learns tx self.old decision.now).lines)) }
     {
         self.outcome = Some(decision.copy()?);
         self.phase = Phase::Done;

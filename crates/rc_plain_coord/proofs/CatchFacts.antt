@@ -9,8 +9,8 @@ use Rattle.rc_body.proofs.Places.{none_passes-filter, length-filter_le, filter-c
 use Rattle.rc_body.proofs.PageFacts.{TxsDiffer-before}
 use Rattle.rc_record.proofs.Rest.{drop_step, drop_end}
 use Rattle.rc_record.specs.CoordState.{outcome_of}
-use Rattle.rc_protocol.specs.Messages.{Sends}
-use Rattle.rc_protocol.specs.Coordinator.{CoordVolatile, forgotten, forgotten_all, finishes, finishes_all, undecided}
+use Rattle.rc_protocol.specs.Messages.{Posts}
+use Rattle.rc_protocol.specs.Coordinator.{CoordVolatile, forgotten, forgotten_all, finish_posts, finish_all_posts, undecided}
 
 -- one more transaction is forgotten
 pub forgotten_step : (v : CoordVolatile) (page : List (ℕ × Decision)) (i : ℕ) (e : ℕ × Decision) (new whole : CoordVolatile) → slice_get page i ≡ Some e
@@ -19,17 +19,17 @@ forgotten_step v page i e new whole at is before =
     ap (λ (u : CoordVolatile). forgotten_all u (drop (i + 1) page)) is ∙ (ap (forgotten_all v) (sym (drop_step page i e at)) ∙ before)
 
 -- the shards are told one more outcome
-pub finishes_step : (c : Layout) (d : ℕ) (page : List (ℕ × Decision)) (i : ℕ) (e : ℕ × Decision) (out new whole : Sends) → slice_get page i ≡ Some e
-    → new ≡ out ++ finishes c d e.0 e.1 → out ++ finishes_all c d (drop i page) ≡ whole → new ++ finishes_all c d (drop (i + 1) page) ≡ whole
+pub finishes_step : (c : Layout) (d : ℕ) (page : List (ℕ × Decision)) (i : ℕ) (e : ℕ × Decision) (out new whole : Posts) → slice_get page i ≡ Some e
+    → new ≡ out ++ finish_posts c d e.0 e.1 → out ++ finish_all_posts c d (drop i page) ≡ whole → new ++ finish_all_posts c d (drop (i + 1) page) ≡ whole
 finishes_step c d page i e out new whole at is before =
-    ap (λ (ms : Sends). ms ++ finishes_all c d (drop (i + 1) page)) is
-    ∙ append_assoc out (finishes c d e.0 e.1) (finishes_all c d (drop (i + 1) page))
-    ∙ ap (λ (es : List (ℕ × Decision)). out ++ finishes_all c d es) (sym (drop_step page i e at)) ∙ before
+    ap (λ (ms : Posts). ms ++ finish_all_posts c d (drop (i + 1) page)) is
+    ∙ append_assoc out (finish_posts c d e.0 e.1) (finish_all_posts c d (drop (i + 1) page))
+    ∙ ap (λ (es : List (ℕ × Decision)). out ++ finish_all_posts c d es) (sym (drop_step page i e at)) ∙ before
 
-pub finishes_end : (c : Layout) (d : ℕ) (page : List (ℕ × Decision)) (i : ℕ) (out whole : Sends) → length page ≤ i
-    → out ++ finishes_all c d (drop i page) ≡ whole → out ≡ whole
+pub finishes_end : (c : Layout) (d : ℕ) (page : List (ℕ × Decision)) (i : ℕ) (out whole : Posts) → length page ≤ i
+    → out ++ finish_all_posts c d (drop i page) ≡ whole → out ≡ whole
 finishes_end c d page i out whole le before =
-    sym (append-nil out) ∙ ap (λ (es : List (ℕ × Decision)). out ++ finishes_all c d es) (sym (drop_end page i le)) ∙ before
+    sym (append-nil out) ∙ ap (λ (es : List (ℕ × Decision)). out ++ finish_all_posts c d es) (sym (drop_end page i le)) ∙ before
 
 -- what is new, one entry further
 pub fresh_absent : (outcomes page fresh : List (ℕ × Decision)) (i t : ℕ) (o : Decision) → IsPage page → slice_get page i ≡ Some (t, o)

@@ -4,7 +4,7 @@ use Rattle.std.specs.Result.{IfOk, IsOkAnd}
 use Rattle.rc_record.specs.declared.record.Record.{Record}
 use Rattle.rc_record.specs.declared.coord.CoordDurable.{CoordDurable}
 use Rattle.rc_record.specs.CoordState.{coord_applied}
-use Rattle.rc_protocol.specs.Messages.{Sends}
+use Rattle.rc_protocol.specs.Messages.{Posts}
 use Rattle.rc_protocol.specs.Coordinator.{CoordAct, CoordVolatile}
 use Rattle.rc_protocol.specs.Nodes.{CoordNode, logged, applied}
 use Rattle.rc_plain_coord.specs.declared.fault.CoordFault.{CoordFault}
@@ -20,7 +20,7 @@ pub act_of : (act : CoordDurable → CoordVolatile → CoordAct) (durable : Coor
 act_of act durable tables old start same there from =
     ap (λ (d : CoordDurable). act d tables) same ∙ ap (act old.durable) (there ∙ ap (λ (x : CoordNode). x.volatile) from)
 
-pub handled : (act made : CoordAct) (done : Result (Option Record) CoordFault) (old start new : CoordNode) (tables : CoordVolatile) (before sent : Sends)
+pub handled : (act made : CoordAct) (done : Result (Option Record) CoordFault) (old start new : CoordNode) (tables : CoordVolatile) (before sent : Posts)
     → made ≡ act → start ≡ old → IfOk done (λ written. Does made written tables before sent) → IsOkAnd done (λ written. new ≡ left start tables written)
     → Handled act old new before sent
 handled act made (Err e) old start new tables before sent same from row ended = absurd ended

@@ -3,7 +3,7 @@ ghost use Rattle.std.specs.Prelude.{◌≡◌, ◌+◌, ◌==◌, ◌++◌, [], 
 ghost use Rattle.rc_ids.specs.Cluster.{is_dc as is_dc_lem};
 ghost use Rattle.rc_msg.specs.declared.msg.Msg.TheVariants.{CatchAsk};
 ghost use Rattle.rc_protocol.specs.Messages.{one, most_entries, coordinator as coordinator_lem};
-ghost use Rattle.rc_protocol.specs.Coordinator.{coord_stays, place_of, page_from, is_next_page, undecided as undecided_lem, outcomes_record as outcomes_record_lem, asks_next as asks_next_lem, takes_page as takes_page_lem, with_place, do_catch, on_catch_ask as on_catch_ask_lem, on_catch_page as on_catch_page_lem};
+ghost use Rattle.rc_protocol.specs.Coordinator.{coord_stays, cursor_of, page_from, is_next_coord_page, undecided as undecided_lem, outcomes_record as outcomes_record_lem, asks_next_coord_page as asks_next_lem, takes_page as takes_page_lem, with_coord_cursor, do_catch, on_catch_ask as on_catch_ask_lem, on_catch_page as on_catch_page_lem};
 ghost use Rattle.rc_plain_coord.specs.Rows.{Does};
 
 use crate::counts::{dc_count, is_dc};
@@ -17,7 +17,7 @@ use std::alloc::Global;
 
 /// Asks another coordinator for its outcomes from the place on to which its list was caught up with.
 fn asks(dc: DcId, volatile: &Volatile, other: DcId, out: &mut Messages) -> Result<(), NoMemory>
-    ensures { OnOk result (out.new ≡ out.old ++ (if other == dc then [] else one (coordinator_lem other) (CatchAsk (place_of volatile.now other)))) }
+    ensures { OnOk result (out.new ≡ out.old ++ (if other == dc then [] else one (coordinator_lem other) (CatchAsk (cursor_of volatile.now other)))) }
 {
     if other == dc {
         return Ok(());
@@ -59,7 +59,7 @@ pub fn on_catch_ask(
 
 /// The place after the page of another coordinator, if the page stands at its catch-up place and that is a place.
 fn next_place(dc: DcId, volatile: &Volatile, from: DcId, place: u32, page: &Page) -> Option<u32>
-    ensures { result ≡ (if is_next_page dc volatile.now from place page.now then Some (place + length page.now) else None) }
+    ensures { result ≡ (if is_next_coord_page dc volatile.now from place page.now then Some (place + length page.now) else None) }
 {
     if from == dc || place != volatile.place(from) {
         return None;
@@ -116,7 +116,7 @@ fn takes_page(
     out: &mut Messages,
 ) -> Result<Option<Record>, NoMemory>
     requires { next ≡ place + length page.now }
-    ensures { IfOk result (λ written. Does (takes_page_lem cluster.now dc (with_place volatile.old from (place + length page.now)) (undecided_lem durable.now.outcomes page.now) (asks_next_lem (coordinator_lem from) place page.now)) written volatile.new out.old out.new) }
+    ensures { IfOk result (λ written. Does (takes_page_lem cluster.now dc (with_coord_cursor volatile.old from (place + length page.now)) (undecided_lem durable.now.outcomes page.now) (asks_next_lem (coordinator_lem from) place page.now)) written volatile.new out.old out.new) }
 {
     let fresh = undecided(alloc, &durable.outcomes, page)?;
     finishes_all(cluster, dc, &fresh, out)?;

@@ -4,7 +4,7 @@ ghost use Rattle.std.specs.Option.{option_copied};
 ghost use Rattle.std.specs.Ordering.{nat_cmp};
 ghost use Rattle.rc_ids.specs.Tables.{found, put as put_lem, without, member};
 ghost use Rattle.rc_body.specs.Bodies.{touches};
-ghost use Rattle.rc_protocol.specs.Coordinator.{Gather as GatherOf, has_all as has_all_lem, with_yes};
+ghost use Rattle.rc_protocol.specs.Coordinator.{GatherState as GatherOf, has_all as has_all_lem, with_yes};
 
 use crate::counts::has_all;
 use rc_body::Body;
@@ -22,7 +22,7 @@ pub struct Gather {
 }
 
 impl Model for Gather {
-    ghost use Rattle.rc_protocol.specs.Coordinator.{Gather as GatherOf};
+    ghost use Rattle.rc_protocol.specs.Coordinator.{GatherState as GatherOf};
 
     ghost Value = { GatherOf };
 
@@ -99,7 +99,7 @@ pub struct Gathers {
 impl Model for Gathers {
     ghost use Rattle.std.specs.Prelude.{ℕ};
     ghost use Rattle.rc_ids.specs.Tables.{Table};
-    ghost use Rattle.rc_protocol.specs.Coordinator.{Gather as GatherOf};
+    ghost use Rattle.rc_protocol.specs.Coordinator.{GatherState as GatherOf};
 
     ghost Value = { Table ℕ GatherOf };
 

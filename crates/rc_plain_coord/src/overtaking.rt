@@ -2,7 +2,7 @@
 ghost use Rattle.std.specs.Prelude.{◌≡◌, IsTrue, if◌then◌else◌, IfOk, IsErrOf};
 ghost use Rattle.std.specs.Option.{option_copied};
 ghost use Rattle.rc_ids.specs.Cluster.{is_dc as is_dc_lem};
-ghost use Rattle.rc_protocol.specs.Coordinator.{coord_stays, opens as opens_lem, takes_over as takes_over_lem, waiting_takeover as waiting_takeover_lem, goes_on as goes_on_lem, on_promise as on_promise_lem, on_abandon as on_abandon_lem, do_take};
+ghost use Rattle.rc_protocol.specs.Coordinator.{coord_stays, opens as opens_lem, takes_over as takes_over_lem, waiting_takeover as waiting_takeover_lem, proposes_or_waits as goes_on_lem, on_promise as on_promise_lem, on_abandon as on_abandon_lem, do_take};
 ghost use Rattle.rc_plain_coord.specs.Rows.{Does, Spares};
 ghost use Rattle.rc_plain_coord.specs.declared.fault.CoordFault.TheVariants.{BallotsSpent};
 

@@ -5,7 +5,7 @@ ghost use Rattle.std.specs.Ordering.{nat_cmp};
 ghost use Rattle.rc_ids.specs.Tables.{found};
 ghost use Rattle.rc_ids.specs.Cluster.{is_shard as is_shard_lem};
 ghost use Rattle.rc_body.specs.declared.decision.Decision.TheVariants.{Commit};
-ghost use Rattle.rc_protocol.specs.Coordinator.{Gather as GatherOf, vote as vote_lem, accepts as accepts_lem, gathers_on as gathers_on_lem, takes_proposal as takes_proposal_lem, on_propose as on_propose_lem, waiting_gather as waiting_gather_lem, said_yes as said_yes_lem, on_prepared as on_prepared_lem, with_gather, accepted_at as accepted_at_lem, coord_stays};
+ghost use Rattle.rc_protocol.specs.Coordinator.{GatherState as GatherOf, vote as vote_lem, accepts as accepts_lem, gathers_on as gathers_on_lem, takes_proposal as takes_proposal_lem, on_propose as on_propose_lem, waiting_gather as waiting_gather_lem, said_yes as said_yes_lem, on_prepared as on_prepared_lem, with_gather, accepted_at as accepted_at_lem, coord_stays};
 ghost use Rattle.rc_plain_coord.specs.Rows.{Does};
 
 use crate::counts::is_shard;

@@ -3,7 +3,7 @@ ghost use Rattle.std.specs.Prelude.{◌≡◌, ℕ, ◌≤◌, ◌++◌, OnOk};
 ghost use Rattle.rc_ids.specs.Cluster.{owner_of};
 ghost use Rattle.rc_msg.specs.declared.msg.Msg.TheVariants.{Refused, Decided, Propose, Finish, Prepare};
 ghost use Rattle.rc_protocol.specs.Messages.{coordinator as coordinator_lem, shard_server as shard_server_lem, client_of, one, to_each, to_all as to_all_lem};
-ghost use Rattle.rc_protocol.specs.Coordinator.{Gather as GatherOf, proposer as proposer_lem, vote as vote_lem, finish_to as finish_to_lem, finishes as finishes_lem, finishes_all as finishes_all_lem, prepare_to as prepare_to_lem};
+ghost use Rattle.rc_protocol.specs.Coordinator.{GatherState as GatherOf, proposer as proposer_lem, vote as vote_lem, finish_to as finish_to_lem, finish_posts as finishes_lem, finish_all_posts as finishes_all_lem, prepare_to as prepare_to_lem};
 
 use crate::counts::{dc_count, shard_count};
 use crate::gather::Gather;

@@ -23,7 +23,7 @@ pub struct TakeOver {
 }
 
 impl Model for TakeOver {
-    ghost use Rattle.rc_protocol.specs.Coordinator.{TakeOver as TakeOverOf};
+    ghost use Rattle.rc_protocol.specs.Coordinator.{TakeoverState as TakeOverOf};
 
     ghost Value = { TakeOverOf };
 

@@ -19,7 +19,7 @@ pub struct TakeOvers {
 impl Model for TakeOvers {
     ghost use Rattle.std.specs.Prelude.{ℕ};
     ghost use Rattle.rc_ids.specs.Tables.{Table};
-    ghost use Rattle.rc_protocol.specs.Coordinator.{TakeOver as TakeOverOf};
+    ghost use Rattle.rc_protocol.specs.Coordinator.{TakeoverState as TakeOverOf};
 
     ghost Value = { Table ℕ TakeOverOf };
 

@@ -3,7 +3,7 @@ ghost use Rattle.std.specs.Prelude.{◌≡◌, OnOk, IfOk, max};
 ghost use Rattle.std.specs.Option.{option_copied};
 ghost use Rattle.std.specs.Ordering.{nat_cmp};
 ghost use Rattle.rc_ids.specs.Tables.{found};
-ghost use Rattle.rc_protocol.specs.Coordinator.{new_volatile, gather_at as gather_at_lem, with_gather, with_takeover, with_vote, forgotten, tally_of, is_decided_by, place_of, with_place, forgotten_all};
+ghost use Rattle.rc_protocol.specs.Coordinator.{new_volatile, gather_at as gather_at_lem, with_gather, with_takeover, with_vote, forgotten, tally_of, is_decided_by, cursor_of, with_coord_cursor, forgotten_all};
 
 use crate::gather::{Gather, Gathers};
 use crate::places::Places;
@@ -29,7 +29,7 @@ impl Model for Volatile {
 
     ghost Value = { CoordVolatile };
 
-    ghost view = { λ v. record { gathers = v.gathers; takeovers = v.takeovers; votes = v.votes; places = v.places } };
+    ghost view = { λ v. record { gathers = v.gathers; takeovers = v.takeovers; votes = v.votes; cursors = v.places } };
 }
 
 impl Volatile {
@@ -110,13 +110,13 @@ impl Volatile {
 
     /// How far the list of the datacentre was caught up with.
     pub fn place(&self, dc: DcId) -> u32
-        ensures { result ≡ place_of self.now dc }
+        ensures { result ≡ cursor_of self.now dc }
     {
         self.places.get(dc)
     }
 
     pub fn keep_place(&mut self, dc: DcId, place: u32) -> Result<(), NoMemory>
-        ensures { OnOk result (self.new ≡ with_place self.old dc place) }
+        ensures { OnOk result (self.new ≡ with_coord_cursor self.old dc place) }
     {
         self.places.put(dc, place)
     }

@@ -1,7 +1,7 @@
 // The rows of votes and outcomes.
 ghost use Rattle.std.specs.Prelude.{◌≡◌, if◌then◌else◌, IfOk};
 ghost use Rattle.rc_ids.specs.Cluster.{is_dc as is_dc_lem};
-ghost use Rattle.rc_protocol.specs.Coordinator.{coord_stays, learns as learns_lem, on_voted as on_voted_lem, on_decided as on_decided_lem};
+ghost use Rattle.rc_protocol.specs.Coordinator.{coord_stays, coord_learns as learns_lem, on_voted as on_voted_lem, on_decided as on_decided_lem};
 ghost use Rattle.rc_plain_coord.specs.Rows.{Does};
 
 use crate::counts::is_dc;

@@ -7,13 +7,13 @@ use Rattle.rc_body.specs.declared.entry.Entry.{Entry}
 use Rattle.rc_body.specs.declared.decision.Decision.{Decision}
 use Rattle.rc_body.specs.declared.reason.Reason.{Reason}
 use Rattle.rc_record.specs.declared.record.Record.TheVariants.{Prepared as PartPrepared}
-use Rattle.rc_protocol.specs.Messages.{Sends}
-use Rattle.rc_protocol.specs.Shard.{ShardVolatile, ShardAct, shard_says, shard_stays, answers, test, preempted, on_prepare, on_finish, finishes, forgotten, forgotten_all, unfinished}
+use Rattle.rc_protocol.specs.Messages.{Posts}
+use Rattle.rc_protocol.specs.Shard.{ShardVolatile, ShardAct, shard_says, shard_stays, answers, test, preempted, on_prepare, on_finish, finishes_page, forgotten, forgotten_all, unfinished}
 use Rattle.rc_protocol.specs.Nodes.{ShardNode, shard_after}
 use Rattle.rc_plain_shard.specs.Acts.{HasActed}
 use Rattle.rc_plain_shard.proofs.Rest.{rest_at}
 
-pub prepare_refused : (d sh t : ℕ) (x : ShardNode) (part : List Entry) (reason : Reason) (before after : Sends)
+pub prepare_refused : (d sh t : ℕ) (x : ShardNode) (part : List Entry) (reason : Reason) (before after : Posts)
     → is_some (found nat_cmp x.durable.finished t) ≡ false → is_some (found nat_cmp x.durable.parts t) ≡ false
     → test x.durable x.volatile t part ≡ Some reason → after ≡ before ++ answers d sh t (Some reason)
     → HasActed x x before after (on_prepare d sh x.durable x.volatile t part)
@@ -35,11 +35,11 @@ forgotten_step v w page i t d z at is before =
     ∙ sym (ap (λ (es : List (ℕ × Decision)). forgotten_all v es) (rest_at page i (t, d) at)) ∙ before
 
 -- an outcome of a transaction that is not finished
-pub finish_acts : (d t : ℕ) (x y : ShardNode) (o : Decision) (page : List (ℕ × Decision)) (before after : Sends)
+pub finish_acts : (d t : ℕ) (x y : ShardNode) (o : Decision) (page : List (ℕ × Decision)) (before after : Posts)
     → is_some (found nat_cmp x.durable.finished t) ≡ false → page ≡ (t, o) ∷ []
-    → HasActed x y before after (finishes d x.durable x.volatile page) → HasActed x y before after (on_finish d x.durable x.volatile t o)
+    → HasActed x y before after (finishes_page d x.durable x.volatile page) → HasActed x y before after (on_finish d x.durable x.volatile t o)
 finish_acts d t x y o page before after unfinished one acted =
-    let act : finishes d x.durable x.volatile page ≡ on_finish d x.durable x.volatile t o =
-    ap (finishes d x.durable x.volatile) one
-    ∙ sym (ap (λ b. if b then shard_stays x.volatile else finishes d x.durable x.volatile ((t, o) ∷ [])) unfinished) in
+    let act : finishes_page d x.durable x.volatile page ≡ on_finish d x.durable x.volatile t o =
+    ap (finishes_page d x.durable x.volatile) one
+    ∙ sym (ap (λ b. if b then shard_stays x.volatile else finishes_page d x.durable x.volatile ((t, o) ∷ [])) unfinished) in
     subst (λ (a : ShardAct). HasActed x y before after a) act acted

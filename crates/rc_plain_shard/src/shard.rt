@@ -3,7 +3,7 @@ ghost use Rattle.std.specs.Prelude.{◌≡◌, ◌+◌, ◌^◌, ◌<◌, [], �
 ghost use Rattle.rc_ids.specs.declared.names.NodeId.TheVariants.{Shard as ShardServer};
 ghost use Rattle.rc_record.specs.ShardState.{new_durable};
 ghost use Rattle.rc_record.specs.declared.record.Record.{Record as RecordState};
-ghost use Rattle.rc_protocol.specs.Shard.{do_catch, shard_row, ignores_ask, on_read_ask, on_read_cancel, on_prepare, on_finish, on_catch_page, is_next_page, unfinished as unfinished_lem, test, takes_page, finishes, answers, asks_next};
+ghost use Rattle.rc_protocol.specs.Shard.{do_catch, shard_row, ignores_ask, on_read_ask, on_read_cancel, on_prepare, on_finish, on_catch_page, is_next_shard_page, unfinished as unfinished_lem, test, takes_page, finishes_page, answers, asks_next_shard_page};
 ghost use Rattle.rc_protocol.specs.Nodes.{ShardNode, shard_replayed, shard_started, shard_stopped, shard_after};
 ghost use Rattle.rc_protocol.specs.Shown.{row_lines};
 ghost use Rattle.rc_ids.specs.Cluster.{is_dc as is_dc_lem};
@@ -68,7 +68,7 @@ fn answer(
 /// Asks for the page after a full one, which began at the place and ended at the next one.
 fn ask_next(dc: DcId, place: u32, page: &Page, out: &mut Messages) -> Result<(), NoMemory>
     requires { place + length page.now < 2 ^ 32 }
-    ensures { OnOk result (out.new ≡ out.old ++ asks_next dc place page.now) }
+    ensures { OnOk result (out.new ≡ out.old ++ asks_next_shard_page dc place page.now) }
 {
     if page.len() == Page::MOST_ENTRIES {
         let next = Msg::CatchAsk(place + page.len() as u32);
@@ -276,7 +276,7 @@ impl Shard {
 
     /// Keeps the outcomes of the page, and grants the reads that waited for its keys.
     fn settle(&mut self, dc: DcId, page: Page, out: &mut Messages) -> Result<(), NoMemory>
-        ensures { OnOk result (HasActed self.old self.new out.old out.new (finishes dc self.old.durable self.old.volatile page)) }
+        ensures { OnOk result (HasActed self.old self.new out.old out.new (finishes_page dc self.old.durable self.old.volatile page)) }
     {
         self.volatile.forget_all(&page);
         self.log.write(Record::Finished(page))?;
@@ -295,7 +295,7 @@ impl Shard {
     }
 
     fn is_next_page(&self, place: u32, page: &Page) -> bool
-        ensures { result ≡ is_next_page self.now.volatile place page.now }
+        ensures { result ≡ is_next_shard_page self.now.volatile place page.now }
     {
         self.volatile.is_next_page(place, page)
     }

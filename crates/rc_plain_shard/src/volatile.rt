@@ -1,7 +1,7 @@
 // What a stop loses.
 ghost use Rattle.std.specs.Prelude.{◌≡◌, ◌++◌, OnOk};
 ghost use Rattle.rc_ids.specs.Tables.{member};
-ghost use Rattle.rc_protocol.specs.Shard.{new_volatile, mark_cmp, forgotten, forgotten_all, is_next_page, with_place, do_catch, granted, grants, waits, locks_plain, on_read_cancel, preempted};
+ghost use Rattle.rc_protocol.specs.Shard.{new_volatile, mark_cmp, forgotten, forgotten_all, is_next_shard_page, with_shard_cursor, do_catch, granted, grants, waits, locks_plain, on_read_cancel, preempted};
 
 use crate::durable::Durable;
 use crate::marks::Marks;
@@ -27,7 +27,7 @@ impl Model for Volatile {
 
     ghost Value = { ShardVolatile };
 
-    ghost view = { λ v. record { plain = v.plain; lost = v.lost; waiting = v.waiting; place = v.place } };
+    ghost view = { λ v. record { plain = v.plain; lost = v.lost; waiting = v.waiting; cursor = v.place } };
 }
 
 impl Volatile {
@@ -96,14 +96,14 @@ impl Volatile {
 
     /// Whether the page of outcomes is the next one, and its end is a place.
     pub fn is_next_page(&self, place: u32, page: &Page) -> bool
-        ensures { result ≡ is_next_page self.now place page.now }
+        ensures { result ≡ is_next_shard_page self.now place page.now }
     {
         place == self.place && place as u64 + (page.len() as u64) < 1 << 32
     }
 
     /// Keeps how far the list of outcomes was caught up with.
     pub fn set_place(&mut self, place: u32)
-        ensures { self.new ≡ with_place self.old place }
+        ensures { self.new ≡ with_shard_cursor self.old place }
     {
         self.place = place;
     }

@@ -7,7 +7,7 @@ use Rattle.rc_ids.specs.declared.names.Party.{Party}
 use Rattle.rc_msg.specs.declared.msg.Msg.{Msg}
 use Rattle.rc_protocol.specs.Shard.{ShardDurable, ShardVolatile, ShardAct, shard_row, shard_stays, do_catch as shard_catches}
 use Rattle.rc_protocol.specs.Coordinator.{CoordDurable, CoordVolatile, CoordAct, coord_row, do_take, do_catch as coord_catches}
-use Rattle.rc_protocol.specs.Client.{Client, ClientAct, ClientRefusal, NotOpen, TooManyKeys, client_refuses, is_open, is_full, do_read, do_write, do_commit, do_cancel, do_retry, do_vanish, client_row}
+use Rattle.rc_protocol.specs.Client.{Client, ClientAct, ClientRefusal, NotOpen, TooManyKeys, client_refuses, is_open, is_out_of_slots, do_read, do_write, do_commit, do_cancel, do_retry, do_vanish, client_row}
 
 -- NODES: a message comes, or a command to catch up or to take a transaction over
 pub data NodeCause : Type 0 where
@@ -51,7 +51,7 @@ abbrev pub if_open : Client → Option ClientRefusal → Option ClientRefusal
 if_open x refusal = if is_open x.phase then refusal else Some NotOpen
 
 abbrev pub if_room : Client → List ℕ → Option ClientRefusal
-if_room x k = if is_full x k then Some TooManyKeys else None
+if_room x k = if is_out_of_slots x k then Some TooManyKeys else None
 
 abbrev pub refusal : Client → ClientCause → Option ClientRefusal
 refusal x (Reads k) = if_open x (if_room x k)

@@ -15,7 +15,7 @@ use Rattle.rc_msg.specs.declared.msg.Msg.{Msg}
 use Rattle.rc_msg.specs.declared.msg.Msg.TheVariants.{ReadAsk, ReadCancel, Granted, Propose, Voted, Refused, Decided, Abandon}
 use Rattle.rc_report.specs.declared.line.Line.{Line}
 use Rattle.rc_report.specs.declared.line.Line.TheVariants.{Read as ReadLine, Own, Refused as RefusedLine, Learned}
-use Rattle.rc_protocol.specs.Messages.{Sends, coordinator, shard_server, one, to_each, to_all}
+use Rattle.rc_protocol.specs.Messages.{Posts, coordinator, shard_server, one, to_each, to_all}
 use Rattle.rc_protocol.specs.Coordinator.{Standing, counted, is_decided_by}
 
 pub data Phase : Type 0 where
@@ -54,7 +54,7 @@ pub data ClientRefusal : Type 0 where
 -- what a row does, or why it is refused: then it does nothing
 pub record ClientAct : Type 0 where
   pub after : Client
-  pub sends : Sends
+  pub sends : Posts
   pub lines : List Line
   pub refused : Option ClientRefusal
 
@@ -142,7 +142,7 @@ body_of slots = map entry_of slots
 abbrev pub client_stays : Client → ClientAct
 client_stays x = record { after = x; sends = []; lines = []; refused = None }
 
-abbrev pub client_says : Client → Sends → ClientAct
+abbrev pub client_says : Client → Posts → ClientAct
 client_says x ms = record { after = x; sends = ms; lines = []; refused = None }
 
 abbrev pub client_prints : Client → Line → ClientAct
@@ -155,7 +155,7 @@ client_refuses x reason = record { after = x; sends = []; lines = []; refused = 
 abbrev pub unless_refused : Client → ClientAct → ClientAct
 unless_refused before act = maybe act.refused act (client_refuses before)
 
-abbrev pub asks : Layout → ℕ → List ℕ → Sends
+abbrev pub asks : Layout → ℕ → List ℕ → Posts
 asks c t k = to_each c.dcs (λ d. one (shard_server d (shard_of c k)) (ReadAsk t k))
 
 -- PROPOSING
@@ -172,8 +172,8 @@ abbrev pub most_keys : ℕ
 most_keys = 32
 
 -- the key would be one too many
-abbrev pub is_full : Client → List ℕ → Bool
-is_full x k = is_none (slot_of x.slots k) && nat_le most_keys (length x.slots)
+abbrev pub is_out_of_slots : Client → List ℕ → Bool
+is_out_of_slots x k = is_none (slot_of x.slots k) && nat_le most_keys (length x.slots)
 
 abbrev pub asks_new : Layout → ℕ → Client → List ℕ → ClientAct
 asks_new c t x k = client_says (with_slots x (x.slots ++ record { key = k; write = None; read = UnderWay true [] } ∷ [])) (asks c t k)
@@ -204,7 +204,7 @@ read_begun s = if is_unread s.read then with_read s (UnderWay false []) else s
 abbrev pub reads_begun : List Slot → List Slot
 reads_begun slots = map read_begun slots
 
-abbrev pub asks_all : Layout → ℕ → List (List ℕ) → Sends
+abbrev pub asks_all : Layout → ℕ → List (List ℕ) → Posts
 asks_all c t [] = []
 asks_all c t (k ∷ ks) = asks c t k ++ asks_all c t ks
 
@@ -238,10 +238,10 @@ abbrev pub best_grant : List Grant → ℕ × Option (List ℕ)
 best_grant [] = (0, None)
 best_grant (g ∷ gs) = if nat_lt g.version (best_grant gs).0 then best_grant gs else (g.version, g.value)
 
-abbrev pub cancel_to : Layout → ℕ → List ℕ → List ℕ → ℕ → Sends
+abbrev pub cancel_to : Layout → ℕ → List ℕ → List ℕ → ℕ → Posts
 cancel_to c t k granted d = if member nat_cmp granted d then [] else one (shard_server d (shard_of c k)) (ReadCancel t k)
 
-abbrev pub cancels : Layout → ℕ → List ℕ → List Grant → Sends
+abbrev pub cancels : Layout → ℕ → List ℕ → List Grant → Posts
 cancels c t k grants = to_each c.dcs (cancel_to c t k (granted_by grants))
 
 abbrev pub completed : Slot → List Grant → Slot
@@ -251,16 +251,16 @@ abbrev pub read_line : ℕ → Slot → List Grant → List Line
 read_line t s grants = if prints_of s.read then ReadLine t s.key (best_grant grants).0 (best_grant grants).1 ∷ [] else []
 
 -- a committing client that waits for no read proposes
-abbrev pub goes_on : Layout → ℕ → Client → ClientAct
-goes_on c t x = if is_committing x.phase && not (waits_for_read x.slots) then proposes c t x else client_stays x
+abbrev pub proposes_once_read : Layout → ℕ → Client → ClientAct
+proposes_once_read c t x = if is_committing x.phase && not (waits_for_read x.slots) then proposes c t x else client_stays x
 
 -- before that the cancels go, and the line of the read
-abbrev pub after_read : Sends → List Line → ClientAct → ClientAct
+abbrev pub after_read : Posts → List Line → ClientAct → ClientAct
 after_read ms lines act = record act { sends = ms ++ act.sends; lines = lines }
 
 abbrev pub completes : Layout → ℕ → Client → Slot → List Grant → ClientAct
 completes c t x s grants =
-    unless_refused x (after_read (cancels c t s.key grants) (read_line t s grants) (goes_on c t (with_slots x (slot_set x.slots (completed s grants)))))
+    unless_refused x (after_read (cancels c t s.key grants) (read_line t s grants) (proposes_once_read c t (with_slots x (slot_set x.slots (completed s grants)))))
 
 abbrev pub with_grant : Slot → Grant → List Grant
 with_grant s g = grants_of s.read ++ g ∷ []
@@ -285,8 +285,8 @@ on_granted c t x k g =
     else client_stays x
 
 -- VOTES, REFUSALS, OUTCOMES
-abbrev pub learns : ℕ → Client → Decision → ClientAct
-learns t x o = client_prints (record x { phase = Done; outcome = Some o }) (Learned t (outcome_of o))
+abbrev pub client_learns : ℕ → Client → Decision → ClientAct
+client_learns t x o = client_prints (record x { phase = Done; outcome = Some o }) (Learned t (outcome_of o))
 
 abbrev pub with_vote : Client → ℕ → ℕ → Decision → Client
 with_vote x b d o = record x { votes = counted x.votes b d o }
@@ -294,16 +294,16 @@ with_vote x b d o = record x { votes = counted x.votes b d o }
 abbrev pub on_voted : Layout → ℕ → Client → ℕ → ℕ → Decision → ClientAct
 on_voted c t x b d o =
     if is_over x.phase then client_stays x
-    else (if is_decided_by c x.votes b d o then learns t (with_vote x b d o) o else client_stays (with_vote x b d o))
+    else (if is_decided_by c x.votes b d o then client_learns t (with_vote x b d o) o else client_stays (with_vote x b d o))
 
 abbrev pub on_decided : ℕ → Client → Decision → ClientAct
-on_decided t x o = if is_over x.phase then client_stays x else learns t x o
+on_decided t x o = if is_over x.phase then client_stays x else client_learns t x o
 
 abbrev pub with_refusal : Client → ℕ → Client
 with_refusal x d = record x { refusals = added nat_cmp x.refusals d }
 
 -- the refusing datacentres are a quorum now and were none before
-abbrev pub gives_up : Layout → ℕ → List ℕ → ℕ → Sends
+abbrev pub gives_up : Layout → ℕ → List ℕ → ℕ → Posts
 gives_up c t refusals d =
     if is_quorum c (added nat_cmp refusals d) && not (is_quorum c refusals) then one (coordinator (home c t)) (Abandon t) else []
 
@@ -318,7 +318,7 @@ on_refused c t x b d reason =
     else client_stays x
 
 -- WHAT A CLIENT WAITS FOR IS SENT AGAIN
-abbrev pub asks_rest : Layout → ℕ → Slot → Sends
+abbrev pub asks_rest : Layout → ℕ → Slot → Posts
 asks_rest c t s = to_each c.dcs (λ d. if member nat_cmp (granted_by (grants_of s.read)) d then [] else one (shard_server d (shard_of c s.key)) (ReadAsk t s.key))
 
 -- the keys whose read is under way, in key order
@@ -326,12 +326,12 @@ abbrev pub waiting_keys : List Slot → List (List ℕ)
 waiting_keys [] = []
 waiting_keys (s ∷ ss) = if is_under_way s.read then added key_cmp (waiting_keys ss) s.key else waiting_keys ss
 
-abbrev pub asks_again : Layout → ℕ → List Slot → List (List ℕ) → Sends
+abbrev pub asks_again : Layout → ℕ → List Slot → List (List ℕ) → Posts
 asks_again c t slots [] = []
 asks_again c t slots (k ∷ ks) = maybe (slot_of slots k) [] (asks_rest c t) ++ asks_again c t slots ks
 
 -- the same proposal, or the transaction is given up where the refusing datacentres are a quorum
-abbrev pub proposes_again : Layout → ℕ → Client → Sends
+abbrev pub proposes_again : Layout → ℕ → Client → Posts
 proposes_again c t x =
     if is_quorum c x.refusals
     then one (coordinator (home c t)) (Abandon t)

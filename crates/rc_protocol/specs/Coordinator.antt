@@ -19,17 +19,17 @@ use Rattle.rc_record.specs.declared.record.Record.{Record}
 use Rattle.rc_record.specs.declared.record.Record.TheVariants.{Promised, Accepted, Decided as OutcomesDecided}
 pub use Rattle.rc_record.specs.declared.coord.CoordDurable.{CoordDurable}
 pub use Rattle.rc_record.specs.CoordState.{new_durable, promise_of, outcome_of, promise_raised, outcomes_joined, coord_applied}
-use Rattle.rc_protocol.specs.Messages.{Sends, coordinator, shard_server, client_of, one, to_each, to_all, most_entries}
+use Rattle.rc_protocol.specs.Messages.{Posts, coordinator, shard_server, client_of, one, to_each, to_all, most_entries}
 
 -- a transaction for which this datacentre's shards are asked, and those that said yes
-pub record Gather : Type 0 where
+pub record GatherState : Type 0 where
   pub ballot : ℕ
   pub body : List Entry
   pub yes : List ℕ
 
 -- an open take-over: who promised its ballot, who of them reported nothing, and the report of the highest ballot. An eager one proposes
 -- as soon as it may, a patient one aborts only what no quorum can have chosen before
-pub record TakeOver : Type 0 where
+pub record TakeoverState : Type 0 where
   pub ballot : ℕ
   pub is_eager : Bool
   pub has_proposed : Bool
@@ -43,26 +43,26 @@ pub record Standing : Type 0 where
   pub aborts : List ℕ
 
 pub record CoordVolatile : Type 0 where
-  pub gathers : Table ℕ Gather
-  pub takeovers : Table ℕ TakeOver
+  pub gathers : Table ℕ GatherState
+  pub takeovers : Table ℕ TakeoverState
   pub votes : Table ℕ (Table ℕ Standing)
-  pub places : Table ℕ ℕ  -- how far the list of each other coordinator was caught up with
+  pub cursors : Table ℕ ℕ  -- how far the list of each other coordinator was caught up with
 
 -- what a row does; where no ballot is left it does nothing, and says so
 pub record CoordAct : Type 0 where
   pub logs : Option Record
   pub after : CoordVolatile
-  pub sends : Sends
+  pub sends : Posts
   pub spent : Bool
 
 abbrev pub new_volatile : CoordVolatile
-new_volatile = record { gathers = []; takeovers = []; votes = []; places = [] }
+new_volatile = record { gathers = []; takeovers = []; votes = []; cursors = [] }
 
 -- ACTS
 abbrev pub coord_stays : CoordVolatile → CoordAct
 coord_stays v = record { logs = None; after = v; sends = []; spent = false }
 
-abbrev pub coord_says : CoordVolatile → Sends → CoordAct
+abbrev pub coord_says : CoordVolatile → Posts → CoordAct
 coord_says v ms = record { logs = None; after = v; sends = ms; spent = false }
 
 -- what is done of a transaction that is decided, and of one that is not
@@ -77,28 +77,28 @@ tells v to t outcome = coord_says v (one to (Decided t outcome))
 abbrev pub proposer : Layout → ℕ → ℕ → Party
 proposer c t b = if b == 0 then client_of t else coordinator (owner_of c b)
 
-abbrev pub vote : Layout → ℕ → ℕ → ℕ → Decision → Sends
+abbrev pub vote : Layout → ℕ → ℕ → ℕ → Decision → Posts
 vote c d t b o = to_all c (Voted t b d o) ++ one (client_of t) (Voted t b d o)
 
 abbrev pub accepts : Layout → ℕ → CoordVolatile → ℕ → ℕ → Decision → CoordAct
 accepts c d v t b o = record { logs = Some (Accepted t b o); after = v; sends = vote c d t b o; spent = false }
 
 -- commit goes to each touched shard with its part, abort to each shard
-abbrev pub finish_to : Layout → ℕ → ℕ → Decision → ℕ → Sends
-finish_to c d t Abort s = one (shard_server d s) (Finish t Abort)
-finish_to c d t (Commit body) s = if touches c body s then one (shard_server d s) (Finish t (Commit (part c s body))) else []
+abbrev pub finish_to : Layout → ℕ → ℕ → Decision → ℕ → Posts
+finish_to c d t Abort sh = one (shard_server d sh) (Finish t Abort)
+finish_to c d t (Commit body) sh = if touches c body sh then one (shard_server d sh) (Finish t (Commit (part c sh body))) else []
 
-abbrev pub finishes : Layout → ℕ → ℕ → Decision → Sends
-finishes c d t o = to_each c.shards (finish_to c d t o)
+abbrev pub finish_posts : Layout → ℕ → ℕ → Decision → Posts
+finish_posts c d t o = to_each c.shards (finish_to c d t o)
 
 abbrev pub forgotten : CoordVolatile → ℕ → CoordVolatile
 forgotten v t = record v { gathers = without nat_cmp v.gathers t; takeovers = without nat_cmp v.takeovers t; votes = without nat_cmp v.votes t }
 
-abbrev pub learns : Layout → ℕ → CoordVolatile → ℕ → Decision → CoordAct
-learns c d v t o = record { logs = Some (OutcomesDecided ((t, o) ∷ [])); after = forgotten v t; sends = finishes c d t o; spent = false }
+abbrev pub coord_learns : Layout → ℕ → CoordVolatile → ℕ → Decision → CoordAct
+coord_learns c d v t o = record { logs = Some (OutcomesDecided ((t, o) ∷ [])); after = forgotten v t; sends = finish_posts c d t o; spent = false }
 
 -- A TAKE-OVER OPENS
-abbrev pub opening : ℕ → Bool → TakeOver
+abbrev pub opening : ℕ → Bool → TakeoverState
 opening b is_eager = record { ballot = b; is_eager = is_eager; has_proposed = false; heard = []; silent = []; best = None }
 
 abbrev pub opens : Layout → CoordVolatile → ℕ → Bool → ℕ → CoordAct
@@ -117,24 +117,24 @@ takes_over c d s v t is_eager =
     (λ b. opens c v t is_eager b)
 
 -- A PROPOSAL COMES
-abbrev pub has_all : Layout → Gather → Bool
+abbrev pub has_all : Layout → GatherState → Bool
 has_all c g = list_all (member nat_cmp g.yes) (touched c g.body)
 
-abbrev pub with_gather : CoordVolatile → ℕ → Gather → CoordVolatile
+abbrev pub with_gather : CoordVolatile → ℕ → GatherState → CoordVolatile
 with_gather v t g = record v { gathers = put nat_cmp v.gathers t g }
 
 -- the shard is asked, where it is touched and has not said yes
-abbrev pub prepare_to : Layout → ℕ → ℕ → Gather → ℕ → Sends
-prepare_to c d t g s = if touches c g.body s && not (member nat_cmp g.yes s) then one (shard_server d s) (Prepare t (part c s g.body)) else []
+abbrev pub prepare_to : Layout → ℕ → ℕ → GatherState → ℕ → Posts
+prepare_to c d t g sh = if touches c g.body sh && not (member nat_cmp g.yes sh) then one (shard_server d sh) (Prepare t (part c sh g.body)) else []
 
-abbrev pub gathers_on : Layout → ℕ → CoordVolatile → ℕ → Gather → CoordAct
+abbrev pub gathers_on : Layout → ℕ → CoordVolatile → ℕ → GatherState → CoordAct
 gathers_on c d v t g =
     if has_all c g
     then accepts c d (with_gather v t g) t g.ballot (Commit g.body)
     else coord_says (with_gather v t g) (to_each c.shards (prepare_to c d t g))
 
 -- a gather is made where there is none; its ballot becomes the larger one
-abbrev pub gather_at : CoordVolatile → ℕ → ℕ → List Entry → Gather
+abbrev pub gather_at : CoordVolatile → ℕ → ℕ → List Entry → GatherState
 gather_at v t b body =
     maybe (found nat_cmp v.gathers t)
     (record { ballot = b; body = body; yes = [] })
@@ -161,12 +161,12 @@ on_propose c d s v t b o =
 
 -- A SHARD ANSWERS
 -- the gather that waits for this shard: the transaction is undecided, the shard is touched and has not said yes
-abbrev pub waiting_gather : Layout → CoordDurable → CoordVolatile → ℕ → ℕ → Option Gather
+abbrev pub waiting_gather : Layout → CoordDurable → CoordVolatile → ℕ → ℕ → Option GatherState
 waiting_gather c s v t sh =
     if_decided s t (λ _. None)
     (maybe (found nat_cmp v.gathers t) None (λ g. if touches c g.body sh && not (member nat_cmp g.yes sh) then Some g else None))
 
-abbrev pub said_yes : Layout → ℕ → CoordDurable → CoordVolatile → ℕ → Gather → CoordAct
+abbrev pub said_yes : Layout → ℕ → CoordDurable → CoordVolatile → ℕ → GatherState → CoordAct
 said_yes c d s v t g =
     if has_all c g
     then (if nat_lt g.ballot (promise_of s.promises t)
@@ -174,7 +174,7 @@ said_yes c d s v t g =
     else accepts c d (with_gather v t g) t g.ballot (Commit g.body))
     else coord_stays (with_gather v t g)
 
-abbrev pub with_yes : Gather → ℕ → Gather
+abbrev pub with_yes : GatherState → ℕ → GatherState
 with_yes g sh = record g { yes = added nat_cmp g.yes sh }
 
 abbrev pub on_prepared : Layout → ℕ → CoordDurable → CoordVolatile → ℕ → ℕ → Option Reason → CoordAct
@@ -207,7 +207,7 @@ better best None = best
 better None (Some report) = Some report
 better (Some old) (Some report) = if nat_lt old.0 report.0 then Some report else Some old
 
-abbrev pub hears : TakeOver → ℕ → Option (ℕ × Decision) → TakeOver
+abbrev pub hears : TakeoverState → ℕ → Option (ℕ × Decision) → TakeoverState
 hears k from report = record k {
   heard = added nat_cmp k.heard from;
   silent = if is_some report then k.silent else added nat_cmp k.silent from;
@@ -219,36 +219,36 @@ best_or_abort None = Abort
 best_or_abort (Some report) = report.1
 
 -- an eager take-over proposes what was reported at the highest ballot, else abort, once a quorum is heard
-abbrev pub chooses_eagerly : Layout → TakeOver → Option Decision
+abbrev pub chooses_eagerly : Layout → TakeoverState → Option Decision
 chooses_eagerly c k = if is_quorum c k.heard then Some (best_or_abort k.best) else None
 
 -- a patient one proposes abort once a quorum reported nothing, and what was reported at the highest ballot once all are heard
-abbrev pub chooses_patiently : Layout → TakeOver → Option Decision
+abbrev pub chooses_patiently : Layout → TakeoverState → Option Decision
 chooses_patiently c k =
     if is_quorum c k.silent then Some Abort
     else (if list_all (member nat_cmp k.heard) (all_dcs c) then Some (best_or_abort k.best) else None)
 
-abbrev pub chooses : Layout → TakeOver → Option Decision
+abbrev pub chooses : Layout → TakeoverState → Option Decision
 chooses c k = if k.is_eager then chooses_eagerly c k else chooses_patiently c k
 
 -- the open take-over that still waits for this datacentre
-abbrev pub waiting_takeover : CoordDurable → CoordVolatile → ℕ → ℕ → ℕ → Option TakeOver
+abbrev pub waiting_takeover : CoordDurable → CoordVolatile → ℕ → ℕ → ℕ → Option TakeoverState
 waiting_takeover s v t b from =
     if_decided s t (λ _. None)
     (maybe (found nat_cmp v.takeovers t) None (λ k. if (k.ballot == b) && (not k.has_proposed && not (member nat_cmp k.heard from)) then Some k else None))
 
-abbrev pub with_takeover : CoordVolatile → ℕ → TakeOver → CoordVolatile
+abbrev pub with_takeover : CoordVolatile → ℕ → TakeoverState → CoordVolatile
 with_takeover v t k = record v { takeovers = put nat_cmp v.takeovers t k }
 
 -- it proposes once, and keeps no report after that
-abbrev pub proposed : TakeOver → TakeOver
+abbrev pub proposed : TakeoverState → TakeoverState
 proposed k = record k { has_proposed = true; best = None }
 
-abbrev pub goes_on : Layout → CoordVolatile → ℕ → TakeOver → CoordAct
-goes_on c v t k = maybe (chooses c k) (coord_stays (with_takeover v t k)) (λ o. coord_says (with_takeover v t (proposed k)) (to_all c (Propose t k.ballot o)))
+abbrev pub proposes_or_waits : Layout → CoordVolatile → ℕ → TakeoverState → CoordAct
+proposes_or_waits c v t k = maybe (chooses c k) (coord_stays (with_takeover v t k)) (λ o. coord_says (with_takeover v t (proposed k)) (to_all c (Propose t k.ballot o)))
 
 abbrev pub on_promise : Layout → CoordDurable → CoordVolatile → ℕ → ℕ → ℕ → Option (ℕ × Decision) → CoordAct
-on_promise c s v t b from report = maybe (waiting_takeover s v t b from) (coord_stays v) (λ k. goes_on c v t (hears k from report))
+on_promise c s v t b from report = maybe (waiting_takeover s v t b from) (coord_stays v) (λ k. proposes_or_waits c v t (hears k from report))
 
 -- VOTES
 abbrev pub nobody : Standing
@@ -282,10 +282,10 @@ with_vote v t b from o = record v { votes = put nat_cmp v.votes t (counted (tall
 abbrev pub on_voted : Layout → ℕ → CoordDurable → CoordVolatile → ℕ → ℕ → ℕ → Decision → CoordAct
 on_voted c d s v t b from o =
     if_decided s t (λ _. coord_stays v)
-    (if is_decided_by c (tally_of v t) b from o then learns c d v t o else coord_stays (with_vote v t b from o))
+    (if is_decided_by c (tally_of v t) b from o then coord_learns c d v t o else coord_stays (with_vote v t b from o))
 
 abbrev pub on_decided : Layout → ℕ → CoordDurable → CoordVolatile → ℕ → Decision → CoordAct
-on_decided c d s v t o = if_decided s t (λ _. coord_stays v) (learns c d v t o)
+on_decided c d s v t o = if_decided s t (λ _. coord_stays v) (coord_learns c d v t o)
 
 -- a client gives its transaction up: a patient take-over
 abbrev pub on_abandon : Layout → ℕ → CoordDurable → CoordVolatile → ℕ → CoordAct
@@ -303,15 +303,15 @@ abbrev pub on_catch_ask : ℕ → CoordDurable → CoordVolatile → Party → �
 on_catch_ask d s v asker place = coord_says v (one asker (CatchPage d place (page_from s.outcomes place)))
 
 -- how far the list of d was caught up with
-abbrev pub place_of : CoordVolatile → ℕ → ℕ
-place_of v d = maybe (found nat_cmp v.places d) 0 (λ place. place)
+abbrev pub cursor_of : CoordVolatile → ℕ → ℕ
+cursor_of v d = maybe (found nat_cmp v.cursors d) 0 (λ cursor. cursor)
 
 -- the page of another coordinator stands at its catch-up place, and the place after it is a number of four bytes
-abbrev pub is_next_page : ℕ → CoordVolatile → ℕ → ℕ → List (ℕ × Decision) → Bool
-is_next_page d v from place page = not (from == d) && ((place == place_of v from) && nat_lt (place + length page) (2 ^ 32))
+abbrev pub is_next_coord_page : ℕ → CoordVolatile → ℕ → ℕ → List (ℕ × Decision) → Bool
+is_next_coord_page d v from place page = not (from == d) && ((place == cursor_of v from) && nat_lt (place + length page) (2 ^ 32))
 
-abbrev pub with_place : CoordVolatile → ℕ → ℕ → CoordVolatile
-with_place v from place = record v { places = put nat_cmp v.places from place }
+abbrev pub with_coord_cursor : CoordVolatile → ℕ → ℕ → CoordVolatile
+with_coord_cursor v from cursor = record v { cursors = put nat_cmp v.cursors from cursor }
 
 abbrev pub undecided : List (ℕ × Decision) → List (ℕ × Decision) → List (ℕ × Decision)
 undecided outcomes page = filter (λ (e : ℕ × Decision). is_none (outcome_of outcomes e.0)) page
@@ -320,9 +320,9 @@ abbrev pub forgotten_all : CoordVolatile → List (ℕ × Decision) → CoordVol
 forgotten_all v [] = v
 forgotten_all v (e ∷ es) = forgotten_all (forgotten v e.0) es
 
-abbrev pub finishes_all : Layout → ℕ → List (ℕ × Decision) → Sends
-finishes_all c d [] = []
-finishes_all c d (e ∷ es) = finishes c d e.0 e.1 ++ finishes_all c d es
+abbrev pub finish_all_posts : Layout → ℕ → List (ℕ × Decision) → Posts
+finish_all_posts c d [] = []
+finish_all_posts c d (e ∷ es) = finish_posts c d e.0 e.1 ++ finish_all_posts c d es
 
 -- one record for all that is new, where anything is
 abbrev pub outcomes_record : List (ℕ × Decision) → Option Record
@@ -330,21 +330,21 @@ outcomes_record [] = None
 outcomes_record (e ∷ es) = Some (OutcomesDecided (e ∷ es))
 
 -- after a full page the next one is asked for
-abbrev pub asks_next : Party → ℕ → List (ℕ × Decision) → Sends
-asks_next owner place page = if length page == most_entries then one owner (CatchAsk (place + length page)) else []
+abbrev pub asks_next_coord_page : Party → ℕ → List (ℕ × Decision) → Posts
+asks_next_coord_page owner place page = if length page == most_entries then one owner (CatchAsk (place + length page)) else []
 
-abbrev pub takes_page : Layout → ℕ → CoordVolatile → List (ℕ × Decision) → Sends → CoordAct
-takes_page c d v new more = record { logs = outcomes_record new; after = forgotten_all v new; sends = finishes_all c d new ++ more; spent = false }
+abbrev pub takes_page : Layout → ℕ → CoordVolatile → List (ℕ × Decision) → Posts → CoordAct
+takes_page c d v new more = record { logs = outcomes_record new; after = forgotten_all v new; sends = finish_all_posts c d new ++ more; spent = false }
 
 abbrev pub on_catch_page : Layout → ℕ → CoordDurable → CoordVolatile → ℕ → ℕ → List (ℕ × Decision) → CoordAct
 on_catch_page c d s v from place page =
-    if is_next_page d v from place page
-    then takes_page c d (with_place v from (place + length page)) (undecided s.outcomes page) (asks_next (coordinator from) place page)
+    if is_next_coord_page d v from place page
+    then takes_page c d (with_coord_cursor v from (place + length page)) (undecided s.outcomes page) (asks_next_coord_page (coordinator from) place page)
     else coord_stays v
 
 -- the command to catch up, and what a restart begins with: each other coordinator is asked, in order
 abbrev pub do_catch : Layout → ℕ → CoordVolatile → CoordAct
-do_catch c d v = coord_says v (to_each c.dcs (λ e. if e == d then [] else one (coordinator e) (CatchAsk (place_of v e))))
+do_catch c d v = coord_says v (to_each c.dcs (λ e. if e == d then [] else one (coordinator e) (CatchAsk (cursor_of v e))))
 
 -- a message that no row names is ignored, and so is one that names a datacentre or shard outside the world
 abbrev pub coord_row : Layout → ℕ → CoordDurable → CoordVolatile → Party → Msg → CoordAct

@@ -34,7 +34,7 @@ abbrev pub coord_index : ℕ → ℕ
 coord_index d = d - 1
 
 abbrev pub shard_index : Layout → ℕ → ℕ → ℕ
-shard_index c d s = (d - 1) * c.shards + (s - 1)
+shard_index c d sh = (d - 1) * c.shards + (sh - 1)
 
 -- REPLAY: the durable state is what the records of the log make, one after another
 abbrev pub coord_replayed : CoordDurable → List Record → CoordDurable

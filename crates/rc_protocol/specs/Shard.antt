@@ -19,7 +19,7 @@ use Rattle.rc_record.specs.declared.record.Record.{Record}
 use Rattle.rc_record.specs.declared.record.Record.TheVariants.{Prepared as PartPrepared, Finished}
 pub use Rattle.rc_record.specs.declared.shard.ShardDurable.{ShardDurable}
 pub use Rattle.rc_record.specs.ShardState.{new_durable, version_at, value_at, set_row, set_rows, settled, settled_new, settled_all, shard_applied}
-use Rattle.rc_protocol.specs.Messages.{Sends, coordinator, client_of, one, or_else, most_entries}
+use Rattle.rc_protocol.specs.Messages.{Posts, coordinator, client_of, one, or_else, most_entries}
 
 -- a key that a transaction locked, lost or waits for
 abbrev pub Mark : Type 0
@@ -34,16 +34,16 @@ pub record ShardVolatile : Type 0 where
   pub plain : List Mark
   pub lost : List Mark
   pub waiting : List Mark
-  pub place : ℕ
+  pub cursor : ℕ
 
 -- what a row does: at most one record, the volatile state after it, and the messages sent
 pub record ShardAct : Type 0 where
   pub logs : Option Record
   pub after : ShardVolatile
-  pub sends : Sends
+  pub sends : Posts
 
 abbrev pub new_volatile : ShardVolatile
-new_volatile = record { plain = []; lost = []; waiting = []; place = 0 }
+new_volatile = record { plain = []; lost = []; waiting = []; cursor = 0 }
 
 -- LOCKS
 -- the least transaction whose prepared part passes the test
@@ -106,14 +106,14 @@ granted s v = record v {
   waiting = filter (λ (m : Mark). not (is_free s.parts m)) v.waiting;
 }
 
-abbrev pub grants : ℕ → ShardDurable → ShardVolatile → Sends
+abbrev pub grants : ℕ → ShardDurable → ShardVolatile → Posts
 grants d s v = map (grant_of d s.rows) (filter (is_free s.parts) v.waiting)
 
 -- THE ROWS
 abbrev pub shard_stays : ShardVolatile → ShardAct
 shard_stays v = record { logs = None; after = v; sends = [] }
 
-abbrev pub shard_says : ShardVolatile → Sends → ShardAct
+abbrev pub shard_says : ShardVolatile → Posts → ShardAct
 shard_says v ms = record { logs = None; after = v; sends = ms }
 
 abbrev pub waits : ShardVolatile → Mark → ShardVolatile
@@ -148,7 +148,7 @@ preempted v t part = record v {
   waiting = cleared v.waiting t;
 }
 
-abbrev pub answers : ℕ → ℕ → ℕ → Option Reason → Sends
+abbrev pub answers : ℕ → ℕ → ℕ → Option Reason → Posts
 answers d sh t reason = one (coordinator d) (Prepared t sh reason)
 
 abbrev pub on_prepare : ℕ → ℕ → ShardDurable → ShardVolatile → ℕ → List Entry → ShardAct
@@ -159,15 +159,15 @@ on_prepare d sh s v t part =
     (record { logs = Some (PartPrepared t part); after = preempted v t part; sends = answers d sh t None })
     (λ reason. shard_says v (answers d sh t (Some reason))))
 
-abbrev pub finishes : ℕ → ShardDurable → ShardVolatile → List (ℕ × Decision) → ShardAct
-finishes d s v page = record {
+abbrev pub finishes_page : ℕ → ShardDurable → ShardVolatile → List (ℕ × Decision) → ShardAct
+finishes_page d s v page = record {
   logs = Some (Finished page);
   after = granted (settled_all s page) (forgotten_all v page);
   sends = grants d (settled_all s page) (forgotten_all v page);
 }
 
 abbrev pub on_finish : ℕ → ShardDurable → ShardVolatile → ℕ → Decision → ShardAct
-on_finish d s v t o = if is_some (found nat_cmp s.finished t) then shard_stays v else finishes d s v ((t, o) ∷ [])
+on_finish d s v t o = if is_some (found nat_cmp s.finished t) then shard_stays v else finishes_page d s v ((t, o) ∷ [])
 
 -- CATCH-UP with the list of outcomes of its coordinator
 -- an abort, or a commit with a key of this shard
@@ -185,32 +185,32 @@ unfinished c sh s page =
     map (λ (e : ℕ × Decision). (e.0, cut_to_part c sh e.1))
     (filter (λ (e : ℕ × Decision). is_none (found nat_cmp s.finished e.0) && concerns c sh e.1) page)
 
-abbrev pub is_next_page : ShardVolatile → ℕ → List (ℕ × Decision) → Bool
-is_next_page v place page = (place == v.place) && nat_lt (place + length page) (2 ^ 32)
+abbrev pub is_next_shard_page : ShardVolatile → ℕ → List (ℕ × Decision) → Bool
+is_next_shard_page v place page = (place == v.cursor) && nat_lt (place + length page) (2 ^ 32)
 
-abbrev pub with_place : ShardVolatile → ℕ → ShardVolatile
-with_place v place = record v { place = place }
+abbrev pub with_shard_cursor : ShardVolatile → ℕ → ShardVolatile
+with_shard_cursor v cursor = record v { cursor = cursor }
 
 -- after a full page the next one is asked for
-abbrev pub asks_next : ℕ → ℕ → List (ℕ × Decision) → Sends
-asks_next d place page = if length page == most_entries then one (coordinator d) (CatchAsk (place + length page)) else []
+abbrev pub asks_next_shard_page : ℕ → ℕ → List (ℕ × Decision) → Posts
+asks_next_shard_page d place page = if length page == most_entries then one (coordinator d) (CatchAsk (place + length page)) else []
 
-abbrev pub then_says : ShardAct → Sends → ShardAct
+abbrev pub then_says : ShardAct → Posts → ShardAct
 then_says act more = record act { sends = act.sends ++ more }
 
 abbrev pub takes_page : ℕ → ShardDurable → ShardVolatile → List (ℕ × Decision) → ShardAct
 takes_page d s v [] = shard_stays v
-takes_page d s v (e ∷ es) = finishes d s v (e ∷ es)
+takes_page d s v (e ∷ es) = finishes_page d s v (e ∷ es)
 
 abbrev pub on_catch_page : Layout → ℕ → ℕ → ShardDurable → ShardVolatile → ℕ → List (ℕ × Decision) → ShardAct
 on_catch_page c d sh s v place page =
-    if is_next_page v place page
-    then then_says (takes_page d s (with_place v (place + length page)) (unfinished c sh s page)) (asks_next d place page)
+    if is_next_shard_page v place page
+    then then_says (takes_page d s (with_shard_cursor v (place + length page)) (unfinished c sh s page)) (asks_next_shard_page d place page)
     else shard_stays v
 
 -- the command to catch up, and what a restart begins with
 abbrev pub do_catch : ℕ → ShardVolatile → ShardAct
-do_catch d v = shard_says v (one (coordinator d) (CatchAsk v.place))
+do_catch d v = shard_says v (one (coordinator d) (CatchAsk v.cursor))
 
 -- a message that no row names is ignored, and so is one that names a datacentre outside the world
 abbrev pub shard_row : Layout → ℕ → ℕ → ShardDurable → ShardVolatile → Msg → ShardAct

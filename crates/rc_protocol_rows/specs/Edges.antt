@@ -20,7 +20,7 @@ use Rattle.rc_runs.specs.Refusals.{run, lines}
 use Rattle.rc_runs.specs.Session.{Session, Halt}
 use Rattle.rc_runs.specs.Stored.{Place, in_memory, new_session}
 use Rattle.rc_runs.specs.Text.{trace, layout_of}
-use Rattle.rc_runs.specs.Farms.{behind}
+use Rattle.rc_runs.specs.Farms.{numbers_since}
 use Rattle.rc_runs.specs.Reports.{summary}
 use Rattle.rc_claims.specs.Outcomes.{is_named, EachOnce, AreNew}
 use Rattle.rc_claims.specs.Calm.{calm_start}
@@ -89,7 +89,7 @@ TextIsTraced =
 
 -- calls are counted from the start
 abbrev pub CallsAreCounted : Type 0
-CallsAreCounted = behind 6 (5 ∷ 7 ∷ 9 ∷ []) ≡ 1 ∷ 3 ∷ []
+CallsAreCounted = numbers_since 6 (5 ∷ 7 ∷ 9 ∷ []) ≡ 1 ∷ 3 ∷ []
 
 -- the summary of a generated script: a read of one shard and a write of the other make 7 deliveries each, and the commit 33
 abbrev pub generated : List NumberedCommand

@@ -1,14 +1,14 @@
 -- One device call of a node's disk fails: at the creation of its log, in an append, or at the opening after one.
 use Rattle.std.specs.Prelude.{ℕ, List, [], ◌∷◌, ◌++◌, codes, if◌then◌else◌}
 use Rattle.rc_ids.specs.declared.names.NodeId.{NodeId}
-use Rattle.rc_record.specs.Heads.{same_node}
+use Rattle.rc_ids.specs.Parties.{is_same_node}
 use Rattle.rc_runs.specs.Stored.{Place, in_memory}
 use Rattle.rc_runs.specs.Text.{Done, FarmFault}
 use Rattle.rc_protocol_rows.specs.Cases.{Case, RunGivesAt, ended}
 
 -- these calls of this node's disk fail
 abbrev pub failing_at : NodeId → List ℕ → Place
-failing_at node calls = record in_memory { failing = λ n. if same_node n node then calls else [] }
+failing_at node calls = record in_memory { failing = λ n. if is_same_node n node then calls else [] }
 
 -- t1 commits while the node stops; then it starts again
 abbrev pub script_for : List ℕ → List (List ℕ)

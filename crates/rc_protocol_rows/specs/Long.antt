@@ -7,8 +7,8 @@ use Rattle.rc_body.specs.declared.decision.Decision.{Decision}
 use Rattle.rc_body.specs.declared.decision.Decision.TheVariants.{Abort}
 use Rattle.rc_msg.specs.declared.msg.Msg.TheVariants.{CatchAsk, CatchPage, Finish}
 use Rattle.rc_record.specs.declared.coord.CoordDurable.{CoordDurable}
-use Rattle.rc_protocol.specs.Messages.{Sends, coordinator, shard_server, one}
-use Rattle.rc_protocol.specs.Coordinator.{CoordAct, coord_row, new_volatile, place_of, with_place}
+use Rattle.rc_protocol.specs.Messages.{Posts, coordinator, shard_server, one}
+use Rattle.rc_protocol.specs.Coordinator.{CoordAct, coord_row, new_volatile, cursor_of, with_coord_cursor}
 use Rattle.rc_runs.specs.Text.{Done}
 use Rattle.rc_protocol_rows.specs.Cases.{Case, ended, three_dcs}
 
@@ -49,9 +49,9 @@ answer place = coord_row three_dcs 1 (listing outcomes) new_volatile (coordinato
 
 -- d3, which stands at a place of the list of d1, is sent a page from a place on
 abbrev pub taking : List (ℕ × Decision) → ℕ → ℕ → List (ℕ × Decision) → CoordAct
-taking known at place page = coord_row three_dcs 3 (listing known) (with_place new_volatile 1 at) (coordinator 1) (CatchPage 1 place page)
+taking known at place page = coord_row three_dcs 3 (listing known) (with_coord_cursor new_volatile 1 at) (coordinator 1) (CatchPage 1 place page)
 
-abbrev pub finishes : List (ℕ × Decision) → Sends
+abbrev pub finishes : List (ℕ × Decision) → Posts
 finishes entries = map (λ (e : ℕ × Decision). (shard_server 3 1, Finish e.0 e.1)) entries
 
 pub record PagesGo (first rest : List (ℕ × Decision)) : Type 0 where
@@ -61,7 +61,7 @@ pub record PagesGo (first rest : List (ℕ × Decision)) : Type 0 where
   -- after a full page the next one is asked for, and not after one that is not full
   pub asks_on : (taking [] 0 0 first).sends ≡ finishes first ++ one (coordinator 1) (CatchAsk 64)
   pub asks_no_more : (taking first 64 64 rest).sends ≡ finishes rest
-  pub place : place_of (taking first 64 64 rest).after 1 ≡ 70
+  pub place : cursor_of (taking first 64 64 rest).after 1 ≡ 70
   -- a page that comes again changes nothing
   pub again : (taking first 64 0 first).sends ≡ []
-  pub stays : place_of (taking first 64 0 first).after 1 ≡ 64
+  pub stays : cursor_of (taking first 64 0 first).after 1 ≡ 64

@@ -7,7 +7,8 @@ use Rattle.rc_ids.specs.declared.names.NodeId.TheVariants.{Coord, Shard}
 use Rattle.rc_fields.specs.Spelling.{u32_bytes}
 use Rattle.rc_record.specs.declared.record.Record.{Record}
 use Rattle.rc_record.specs.declared.record.Record.TheVariants.{Head}
-use Rattle.rc_record.specs.Heads.{new_head, same_node}
+use Rattle.rc_ids.specs.Parties.{is_same_node}
+use Rattle.rc_record.specs.Heads.{new_head}
 use Rattle.rc_record.specs.Spelling.{record_bytes}
 use Rattle.rc_script.specs.Reading.{script_of}
 use Rattle.rc_script.specs.declared.script.NumberedCommand.{NumberedCommand}
@@ -53,7 +54,7 @@ over script = with_stored (left_by (script_of (ended script)))
 
 -- one node's log is another one
 abbrev pub but_for : Place → NodeId → List ℕ → Place
-but_for place node other = record place { content = λ n. if same_node n node then other else place.content n }
+but_for place node other = record place { content = λ n. if is_same_node n node then other else place.content n }
 
 -- t1 wrote a key and committed
 abbrev pub after_commit : Place
@@ -119,6 +120,6 @@ no_ballot = record { script = ended (codes "world 3 1" ∷ codes "take d2 t5" �
 abbrev pub gone_in_first_format : Place
 gone_in_first_format =
     with_stored (λ n.
-    if same_node n (Shard 1 1)
+    if is_same_node n (Shard 1 1)
     then log_bytes ((0 ∷ 1 ∷ 1 ∷ 1 ∷ 1 ∷ 3 ∷ 1 ∷ []) ∷ (1 ∷ 0 ∷ 0 ∷ 0 ∷ 1 ∷ 1 ∷ 1 ∷ 120 ∷ 0 ∷ 0 ∷ 0 ∷ 0 ∷ 0 ∷ 0 ∷ 0 ∷ 1 ∷ 1 ∷ 0 ∷ 1 ∷ 0 ∷ []) ∷ [])
     else [])

@@ -17,7 +17,7 @@ use Rattle.rc_body.specs.declared.entry.Entry.{Entry}
 use Rattle.rc_body.specs.declared.decision.Decision.{Decision}
 use Rattle.rc_record.specs.Heads.{LogHead}
 use Rattle.rc_record.specs.Spelling.{head_bytes, record_bytes, HasHead, HasFullPage, HasRecord}
-use Rattle.rc_record.specs.Reading.{head_at, is_full, full_page_at, head_record_at, prepared_at, finished_at, promised_at, accepted_at, decided_at, kinds_at, record_at, decoded}
+use Rattle.rc_record.specs.Reading.{head_at, is_filled, full_page_at, head_record_at, prepared_at, finished_at, promised_at, accepted_at, decided_at, kinds_at, record_at, decoded}
 use Rattle.rc_record.specs.declared.record.Record.{Record}
 use Rattle.rc_record.specs.declared.record.Record.TheVariants.{Head, Prepared, Finished, Promised, Accepted, Decided}
 use Rattle.rc_record.proofs.HeadLaws.{Reads-head}
@@ -26,8 +26,8 @@ use Rattle.rc_record.proofs.HeadLaws.{Reads-head}
 Reads-full_page : Reads page_bytes HasFullPage full_page_at
 unfolding full_page_at
 Reads-full_page =
-    Reads-same page_bytes (λ page. HasPage page × (is_full page ≡ true)) (tested_at is_full page_at) page_bytes HasFullPage
-    (Reads-tested page_bytes HasPage page_at is_full Reads-page)
+    Reads-same page_bytes (λ page. HasPage page × (is_filled page ≡ true)) (tested_at is_filled page_at) page_bytes HasFullPage
+    (Reads-tested page_bytes HasPage page_at is_filled Reads-page)
     (λ page fits. ((leb-true 1 (length page) fits.1, fits.0), refl)) (λ page fits. (fits.1, le-leb 1 (length page) fits.0))
 
 abbrev TxBody : Type 0

@@ -1,8 +1,8 @@
 -- Heads of logs.
-use Rattle.std.specs.Prelude.{◌≡◌, ℕ, ◌≤◌, ◌<◌, Bool, false, ◌&&◌, ◌==◌, nat_eq}
+use Rattle.std.specs.Prelude.{◌≡◌, ℕ, ◌≤◌, ◌<◌, Bool, ◌&&◌, ◌==◌, nat_eq}
 use Rattle.std.specs.Cmp.Lexicographic.{pointwise}
 use Rattle.rc_ids.specs.declared.names.NodeId.{NodeId}
-use Rattle.rc_ids.specs.declared.names.NodeId.TheVariants.{Coord, Shard}
+use Rattle.rc_ids.specs.Parties.{is_same_node}
 use Rattle.rc_ids.specs.Texts.{same_key}
 use Rattle.rc_ids.specs.Cluster.{Layout, IsLayout, equal_weights}
 
@@ -23,15 +23,9 @@ abbrev pub new_head : NodeId → Layout → LogHead
 new_head node c = record { format = 3; node = node; world = c }
 
 -- THE WORLD
-abbrev pub same_node : NodeId → NodeId → Bool
-same_node (Coord d) (Coord e) = d == e
-same_node (Coord d) (Shard e t) = false
-same_node (Shard d s) (Coord e) = false
-same_node (Shard d s) (Shard e t) = (d == e) && (s == t)
-
 abbrev pub same_world : Layout → Layout → Bool
 same_world c k = (c.dcs == k.dcs) && (c.shards == k.shards) && pointwise same_key c.splits k.splits && pointwise nat_eq c.weights k.weights
 
 -- the head of a log of this node in this world
 abbrev pub is_of : NodeId → Layout → LogHead → Bool
-is_of node c h = same_node h.node node && same_world h.world c
+is_of node c h = is_same_node h.node node && same_world h.world c

@@ -51,11 +51,11 @@ head_at = tested_at is_head (mapped_at head_from (then_at front_at lists_at))
 unfoldable pub prepared_at : Reader Record
 prepared_at = mapped_at (λ (f : ℕ × List Entry). Prepared f.0 f.1) (both_at tx_at body_at)
 
-abbrev pub is_full : List (ℕ × Decision) → Bool
-is_full page = nat_le 1 (length page)
+abbrev pub is_filled : List (ℕ × Decision) → Bool
+is_filled page = nat_le 1 (length page)
 
 unfoldable pub full_page_at : Reader (List (ℕ × Decision))
-full_page_at = tested_at is_full page_at
+full_page_at = tested_at is_filled page_at
 
 unfoldable pub promised_at : Reader Record
 promised_at = mapped_at (λ (f : ℕ × ℕ). Promised f.0 f.1) (both_at tx_at ballot_at)

@@ -1,6 +1,6 @@
 // What a log gives back.
 ghost use Rattle.std.specs.Prelude.{◌≡◌, ◌≢◌, Ok, Err, IfOk, IfErr, OnOk};
-ghost use Rattle.rc_record.specs.Heads.{same_node as same_node_lem, same_world as same_world_lem, is_of as is_of_lem};
+ghost use Rattle.rc_record.specs.Heads.{same_world as same_world_lem, is_of as is_of_lem};
 ghost use Rattle.rc_record.specs.Kinds.{is_shard_record as is_shard_record_lem, is_coord_record as is_coord_record_lem};
 ghost use Rattle.rc_record.specs.InOrder.{shard_replayed_by};
 ghost use Rattle.rc_record.specs.CoordState.{coord_applied};
@@ -11,21 +11,6 @@ use crate::kinds::{has_gone, head_of, is_coord_record, is_shard_record};
 use crate::{CoordDurable, Head, Record, ReplayFault, ShardDurable, decode};
 use rc_ids::{Blob, Blobs, Cluster, NoMemory, NodeId};
 use std::alloc::Global;
-
-fn same_node(first: &NodeId, second: &NodeId) -> bool
-    ensures { result ≡ same_node_lem first.now second.now }
-{
-    match first {
-        NodeId::Coord(dc) => match second {
-            NodeId::Coord(other) => dc == other,
-            NodeId::Shard(_, _) => false,
-        },
-        NodeId::Shard(dc, shard) => match second {
-            NodeId::Coord(_) => false,
-            NodeId::Shard(other, other_shard) => dc == other && shard == other_shard,
-        },
-    }
-}
 
 fn same_world(first: &Cluster, second: &Cluster) -> bool
     ensures { result ≡ same_world_lem first.now second.now }
@@ -40,7 +25,7 @@ fn same_world(first: &Cluster, second: &Cluster) -> bool
 fn is_of(node: &NodeId, cluster: &Cluster, head: &Head) -> bool
     ensures { result ≡ is_of_lem node.now cluster.now head.now }
 {
-    same_node(&head.node(), node) && same_world(head.cluster(), cluster)
+    head.node().is(node) && same_world(head.cluster(), cluster)
 }
 
 /// The format behind a head at this place, or why it may not stand there.

@@ -5,7 +5,8 @@ use Rattle.std.specs.Option.{option_map}
 use Rattle.std.specs.List.{list_any}
 use Rattle.rc_ids.specs.Tables.{maybe}
 use Rattle.rc_disk.specs.declared.power.Cause.{Cause}
-use Rattle.rc_disk.specs.declared.power.Cause.TheVariants.{ByList, ByCut, WhileOff}
+use Rattle.rc_disk.specs.declared.power.Cause.TheVariants.{ByList, ByCut}
+pub use Rattle.rc_log.specs.Append.{keeps}
 use Rattle.rc_record.specs.declared.record.Record.{Record}
 use Rattle.rc_record.specs.Spelling.{record_bytes}
 use Rattle.rc_protocol.specs.Messages.{or_else}
@@ -13,7 +14,7 @@ use Rattle.rc_runs.specs.World.{Course, Goes, Stops}
 
 -- a node's disk and the length of its log. Calls are counted from the start of the run
 pub record Device : Type 0 where
-  pub place : ℕ  -- where the closed gate stands behind the last frame
+  pub offset : ℕ  -- where the closed gate stands behind the last frame
   pub calls : ℕ  -- the writes, cuts and syncs made
   pub reads : ℕ
   pub failing : List ℕ  -- the calls that fail, but for those at which an armed cut falls
@@ -23,7 +24,7 @@ pub record Device : Type 0 where
 
 -- an empty disk with these failing calls
 abbrev pub new_device : List ℕ → List ℕ → Device
-new_device failing failing_reads = record { place = 0; calls = 0; reads = 0; failing = failing; failing_reads = failing_reads; cut = None; is_open = true }
+new_device failing failing_reads = record { offset = 0; calls = 0; reads = 0; failing = failing; failing_reads = failing_reads; cut = None; is_open = true }
 
 -- THE NEXT CALL
 abbrev pub is_number : ℕ → List ℕ → Bool
@@ -46,8 +47,8 @@ nearer cut = option_map (λ (c : ℕ × ℕ). (c.0 - 1, c.1)) cut
 abbrev pub called : Device → Device
 called d = record d { calls = d.calls + 1; cut = nearer d.cut }
 
-abbrev pub at_place : Device → ℕ → Device
-at_place d place = record d { place = place }
+abbrev pub at_offset : Device → ℕ → Device
+at_offset d offset = record d { offset = offset }
 
 -- CALLS IN A ROW: all are made, or one of them fails, counted from 1
 pub data Fate : Type 0 where
@@ -64,18 +65,12 @@ abbrev pub most_log_bytes : ℕ
 most_log_bytes = 2 ^ 28
 
 -- a frame has its gate, four bytes of length, and the record
-abbrev pub place_after : ℕ → ℕ → ℕ
-place_after place len = place + 5 + len
+abbrev pub offset_after : ℕ → ℕ → ℕ
+offset_after offset len = offset + 5 + len
 
 -- with the closed gate behind it
 abbrev pub is_too_long : Device → ℕ → Bool
-is_too_long d len = nat_lt most_log_bytes (place_after d.place len + 1)
-
--- whether the record of an append stays whose call failed: the gate was opened, or a cut left it open
-abbrev pub keeps : ℕ → Cause → Bool
-keeps at ByList = at == 4
-keeps at (ByCut pick) = nat_le 3 at && ((pick == 1) || (pick == 3))
-keeps at WhileOff = at == 4
+is_too_long d len = nat_lt most_log_bytes (offset_after d.offset len + 1)
 
 abbrev pub is_kept : Fate → Bool
 is_kept Made = true
@@ -87,7 +82,7 @@ abbrev pub appends : Device → ℕ → Fate × Device
 appends d len = if is_too_long d len then (Full, d) else in_a_row 1 4 d
 
 abbrev pub appended : Device → ℕ → Fate × Device
-appended d len = let done = appends d len in (done.0, if is_kept done.0 then at_place done.1 (place_after d.place len) else done.1)
+appended d len = let done = appends d len in (done.0, if is_kept done.0 then at_offset done.1 (offset_after d.offset len) else done.1)
 
 abbrev pub course_of : Fate → Course
 course_of Made = Goes

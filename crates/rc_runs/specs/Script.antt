@@ -14,7 +14,7 @@ use Rattle.rc_runs.specs.declared.event.Event.TheVariants.{Begin, Read, Write, C
 use Rattle.rc_protocol.specs.Shown.{row_lines}
 use Rattle.rc_runs.specs.World.{World, Parties, message, order, shard_at}
 use Rattle.rc_runs.specs.Refusals.{Happening, most_events}
-use Rattle.rc_runs.specs.Session.{Session, Halt, Limited, Went, disk_work, happens, prints}
+use Rattle.rc_runs.specs.Session.{Session, Halt, Limited, Happened, disk_change, happens, prints}
 
 -- what a line did: the session after it, its events with the courses that the disks gave them, the lines printed, and why it ends the
 -- script, if it does
@@ -24,7 +24,7 @@ pub record LineDone : Type 0 where
   pub lines : List Line
   pub halt : Option Halt
 
-abbrev pub line_done : Session → List Happening → Went → LineDone
+abbrev pub line_done : Session → List Happening → Happened → LineDone
 line_done z trace (Ok went) = record { after = went.0; trace = trace; lines = went.1; halt = None }
 line_done z trace (Err halt) = record { after = z; trace = []; lines = []; halt = Some halt }
 
@@ -36,11 +36,11 @@ abbrev pub then_trace : List Happening → LineDone → LineDone
 then_trace trace next = record next { trace = trace ++ next.trace }
 
 -- what comes after it, where the script does not end there
-abbrev pub goes_on : LineDone → (Session → LineDone) → LineDone
-goes_on done next = maybe done.halt (then_trace done.trace (then_line done.lines (next done.after))) (λ halt. done)
+abbrev pub unless_halted : LineDone → (Session → LineDone) → LineDone
+unless_halted done next = maybe done.halt (then_trace done.trace (then_line done.lines (next done.after))) (λ halt. done)
 
 abbrev pub by_event : Session → Event → LineDone
-by_event z e = line_done z ((e, (disk_work z e).course) ∷ []) (happens z e)
+by_event z e = line_done z ((e, (disk_change z e).course) ∷ []) (happens z e)
 
 abbrev pub by_lines : Session → List Line → LineDone
 by_lines z lines = line_done z [] (prints z lines)
@@ -60,7 +60,7 @@ oldest w = first w.pending
 -- delivers the oldest pending message, so many times or until none is pending
 unfoldable pub steps : ℕ → Session → LineDone
 steps zero z = idle z
-steps (suc more) z = maybe (oldest z.world) (idle z) (λ n. goes_on (by_event z (Deliver n)) (steps more))
+steps (suc more) z = maybe (oldest z.world) (idle z) (λ n. unless_halted (by_event z (Deliver n)) (steps more))
 
 -- delivers the oldest pending message until none is pending, and then prints the number of deliveries. The first number bounds them: no
 -- more events than the limit can follow
@@ -69,18 +69,18 @@ settles zero count z = maybe (oldest z.world) (by_lines z (Settled count ∷ [])
 settles (suc fuel) count z =
     maybe (oldest z.world)
     (by_lines z (Settled count ∷ []))
-    (λ n. goes_on (by_event z (Deliver n)) (settles fuel (count + 1)))
+    (λ n. unless_halted (by_event z (Deliver n)) (settles fuel (count + 1)))
 
 abbrev pub each : (ℕ → Event) → List ℕ → Session → LineDone
 each event [] z = idle z
-each event (n ∷ ns) z = goes_on (by_event z (event n)) (each event ns)
+each event (n ∷ ns) z = unless_halted (by_event z (event n)) (each event ns)
 
 -- WHAT IS SHOWN
 abbrev pub pending_lines : World → List Line
 pending_lines w = flat_map (λ (n : ℕ). maybe (message w.sent n) [] (λ e. PendingLine n e ∷ [])) w.pending
 
 abbrev pub shown_lines : Parties → ℕ → List Line
-shown_lines w d = flat_map (λ (s : ℕ). maybe (shard_at w d s) [] (row_lines (ShardServer d s))) (up_to w.layout.shards)
+shown_lines w d = flat_map (λ (sh : ℕ). maybe (shard_at w d sh) [] (row_lines (ShardServer d sh))) (up_to w.layout.shards)
 
 -- A LINE, after the one that made the world
 abbrev pub performs : Session → Command → LineDone

@@ -43,47 +43,47 @@ device_in devices i = maybe (slice_get devices i) no_device (λ x. x)
 -- none outside the world
 abbrev pub device_of : Session → NodeId → Device
 device_of z (Coord d) = if is_dc z.world.parties.layout d then device_in z.coords (coord_index d) else no_device
-device_of z (ShardServer d s) = if is_shard_of z.world.parties.layout d s then device_in z.shards (shard_index z.world.parties.layout d s) else no_device
+device_of z (ShardServer d sh) = if is_shard_of z.world.parties.layout d sh then device_in z.shards (shard_index z.world.parties.layout d sh) else no_device
 
 abbrev pub with_device : Session → NodeId → Device → Session
 with_device z (Coord d) x = if is_dc z.world.parties.layout d then record z { coords = slice_set z.coords (coord_index d) x } else z
-with_device z (ShardServer d s) x = if is_shard_of z.world.parties.layout d s then record z { shards = slice_set z.shards (shard_index z.world.parties.layout d s) x } else z
+with_device z (ShardServer d sh) x = if is_shard_of z.world.parties.layout d sh then record z { shards = slice_set z.shards (shard_index z.world.parties.layout d sh) x } else z
 
 -- the node that adds a record in the deed, and the record's length
 abbrev pub append_of : Deed → Option (NodeId × ℕ)
 append_of (ByCoord d x act) = maybe act.logs None (λ r. Some (Coord d, record_length r))
-append_of (ByShard d s x act) = maybe act.logs None (λ r. Some (ShardServer d s, record_length r))
+append_of (ByShard d sh x act) = maybe act.logs None (λ r. Some (ShardServer d sh, record_length r))
 append_of _ = None
 
 -- what an event asks of a disk: the course of its append, and the node whose disk changes, with the disk after it or none where its
 -- log could not be opened
-pub record DiskWork : Type 0 where
+pub record DiskChange : Type 0 where
   pub course : Course
   pub node : Option NodeId
   pub device : Option Device
 
-abbrev pub no_work : DiskWork
-no_work = record { course = Goes; node = None; device = None }
+abbrev pub no_change : DiskChange
+no_change = record { course = Goes; node = None; device = None }
 
-abbrev pub work_on : NodeId → Option Device → DiskWork
-work_on node x = record { course = Goes; node = Some node; device = x }
+abbrev pub change_on : NodeId → Option Device → DiskChange
+change_on node x = record { course = Goes; node = Some node; device = x }
 
 -- where the node stops inside an event its log is opened at once
 abbrev pub after_append : Fate → Device → Option Device
 after_append Made x = Some x
 after_append fate x = opened (powered x)
 
-abbrev pub append_work : NodeId → Fate × Device → DiskWork
-append_work node done = record { course = course_of done.0; node = Some node; device = after_append done.0 done.1 }
+abbrev pub append_change : NodeId → Fate × Device → DiskChange
+append_change node done = record { course = course_of done.0; node = Some node; device = after_append done.0 done.1 }
 
-abbrev pub disk_work : Session → Event → DiskWork
-disk_work z (Crash node) = work_on node (Some (powered (device_of z node)))
-disk_work z (CrashAt node k pick) = work_on node (Some (armed (device_of z node) k pick))
-disk_work z (Restart node) = work_on node (opened_once (device_of z node))
-disk_work z e = maybe (append_of (deed z.world.parties z.world.sent e)) no_work (λ a. append_work a.0 (appended (device_of z a.0) a.1))
+abbrev pub disk_change : Session → Event → DiskChange
+disk_change z (Crash node) = change_on node (Some (powered (device_of z node)))
+disk_change z (CrashAt node k pick) = change_on node (Some (armed (device_of z node) k pick))
+disk_change z (Restart node) = change_on node (opened_once (device_of z node))
+disk_change z e = maybe (append_of (deed z.world.parties z.world.sent e)) no_change (λ a. append_change a.0 (appended (device_of z a.0) a.1))
 
-abbrev pub after_work : Session → DiskWork → Option Session
-after_work z work = maybe work.node (Some z) (λ node. maybe work.device None (λ x. Some (with_device z node x)))
+abbrev pub with_change : Session → DiskChange → Option Session
+with_change z change = maybe change.node (Some z) (λ node. maybe change.device None (λ x. Some (with_device z node x)))
 
 -- TEXT
 abbrev pub most_text_bytes : ℕ
@@ -93,13 +93,13 @@ abbrev pub text_bytes : List Line → ℕ
 text_bytes lines = sum_by (λ (line : Line). length (line_text line)) lines
 
 -- the session after, and the lines printed
-abbrev pub Went : Type 0
-Went = Result (Session × List Line) Halt
+abbrev pub Happened : Type 0
+Happened = Result (Session × List Line) Halt
 
 abbrev pub with_text : Session → ℕ → Session
 with_text z text = record z { text = text }
 
-abbrev pub prints : Session → List Line → Went
+abbrev pub prints : Session → List Line → Happened
 prints z lines =
     if nat_lt most_text_bytes (z.text + text_bytes lines) then Err (Limited TextBytes)
     else Ok (with_text z (z.text + text_bytes lines), lines)
@@ -108,11 +108,11 @@ prints z lines =
 abbrev pub with_world : Session → World → Session
 with_world z w = record z { world = w }
 
-abbrev pub does : Session → Event → DiskWork → Went
-does z e work = maybe (after_work z work) (Err FarmFails) (λ y. prints (with_world y (step z.world e work.course)) (printed z.world e work.course))
+abbrev pub happens_with : Session → Event → DiskChange → Happened
+happens_with z e change = maybe (with_change z change) (Err FarmFails) (λ y. prints (with_world y (step z.world e change.course)) (printed z.world e change.course))
 
-abbrev pub may_do : Session → Event → DiskWork → Went
-may_do z e work = maybe (limit z.world e work.course) (does z e work) (λ which. Err (Limited which))
+abbrev pub happens_within_limits : Session → Event → DiskChange → Happened
+happens_within_limits z e change = maybe (limit z.world e change.course) (happens_with z e change) (λ which. Err (Limited which))
 
-abbrev pub happens : Session → Event → Went
-happens z e = maybe (wrong z.world e) (may_do z e (disk_work z e)) (λ name. Err (Misnamed name))
+abbrev pub happens : Session → Event → Happened
+happens z e = maybe (wrong z.world e) (happens_within_limits z e (disk_change z e)) (λ name. Err (Misnamed name))

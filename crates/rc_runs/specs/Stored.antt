@@ -20,7 +20,7 @@ use Rattle.rc_report.specs.declared.fault.LogFault.TheVariants.{Damaged as LogDa
 use Rattle.rc_protocol.specs.Nodes.{CoordNode, ShardNode, coord_started, shard_started}
 use Rattle.rc_runs.specs.Starts.{start_of}
 use Rattle.rc_runs.specs.World.{started_world}
-use Rattle.rc_runs.specs.Devices.{Device, Fate, Made, Full, FailsAt, new_device, created, appended, opened, powered, record_length, at_place}
+use Rattle.rc_runs.specs.Devices.{Device, Fate, Made, Full, FailsAt, new_device, created, appended, opened, powered, record_length, at_offset}
 use Rattle.rc_runs.specs.Session.{Session, Halt, Limited, LogRefused, FarmFails}
 
 -- what each node's disk has, and which of its calls fail, counted from the start, but for those at which an armed cut falls
@@ -66,7 +66,7 @@ fault_of _ = None
 
 abbrev pub refusal : NodeId → Layout → List (List ℕ) → Option LogFault
 refusal (Coord d) c blobs = fault_of (coord_replay (Coord d) c blobs)
-refusal (ShardServer d s) c blobs = fault_of (shard_replay (ShardServer d s) c blobs)
+refusal (ShardServer d sh) c blobs = fault_of (shard_replay (ShardServer d sh) c blobs)
 
 abbrev pub without_head : Record → List Record
 without_head (Head h) = []
@@ -86,7 +86,7 @@ takes_log c node d blobs =
 
 -- what its bytes stand for, or the place at which no frame can stand
 abbrev pub reads_log : Layout → NodeId → Device → Result (List (List ℕ)) ℕ → Result Begun Halt
-reads_log c node d (Ok blobs) = takes_log c node (at_place d (size_of blobs)) blobs
+reads_log c node d (Ok blobs) = takes_log c node (at_offset d (size_of blobs)) blobs
 reads_log c node d (Err place) = Err (LogRefused node (LogDamaged place))
 
 -- a log is created where the disk is empty, and opened else
@@ -99,7 +99,7 @@ begins_node p c node = if p.lend_fails node then Err FarmFails else opens_log c 
 
 -- ALL NODES, one by one: d1, d1.s1 to d1.sS, d2 and so on
 abbrev pub nodes_of_dc : Layout → ℕ → List NodeId
-nodes_of_dc c d = Coord d ∷ map (λ (s : ℕ). ShardServer d s) (up_to c.shards)
+nodes_of_dc c d = Coord d ∷ map (λ (sh : ℕ). ShardServer d sh) (up_to c.shards)
 
 abbrev pub nodes_of : Layout → List NodeId
 nodes_of c = flat_map (nodes_of_dc c) (all_dcs c)
@@ -119,11 +119,11 @@ begins_all p c (node ∷ nodes) = with_rest (begins_node p c node) (begins_all p
 -- WHAT THE LOGS SAY
 abbrev pub if_coord : {X : Type 0} → NodeId → X → List X
 if_coord (Coord d) x = x ∷ []
-if_coord (ShardServer d s) x = []
+if_coord (ShardServer d sh) x = []
 
 abbrev pub if_shard : {X : Type 0} → NodeId → X → List X
 if_shard (Coord d) x = []
-if_shard (ShardServer d s) x = x ∷ []
+if_shard (ShardServer d sh) x = x ∷ []
 
 abbrev pub coords_of : List Begun → List CoordNode
 coords_of xs = flat_map (λ (x : Begun). if_coord x.node (coord_started x.log)) xs

@@ -18,7 +18,7 @@ use Rattle.rc_report.specs.declared.line.Line.{Line}
 use Rattle.rc_report.specs.declared.line.Line.TheVariants.{Stopped, Up}
 use Rattle.rc_runs.specs.declared.event.Event.{Event}
 use Rattle.rc_runs.specs.declared.event.Event.TheVariants.{Begin, Read, Write, Commit, Cancel, Retry, Vanish, Take, Catch, Deliver, Lose, Crash, CrashAt, Restart}
-use Rattle.rc_protocol.specs.Messages.{Sends, coordinator, client_of}
+use Rattle.rc_protocol.specs.Messages.{Posts, coordinator, client_of}
 use Rattle.rc_protocol.specs.Shard.{ShardAct}
 use Rattle.rc_protocol.specs.Coordinator.{CoordAct}
 use Rattle.rc_protocol.specs.Client.{Client, ClientAct, new_client}
@@ -72,19 +72,19 @@ order w = map (λ (x : ℕ × List Entry). x.0) w.parties.committed
 
 -- the shard server is one of the world
 abbrev pub is_shard_of : Layout → ℕ → ℕ → Bool
-is_shard_of c d s = is_dc c d && is_shard c s
+is_shard_of c d sh = is_dc c d && is_shard c sh
 
 -- none outside the world
 abbrev pub coord_at : Parties → ℕ → Option CoordNode
 coord_at w d = if is_dc w.layout d then slice_get w.coords (coord_index d) else None
 
 abbrev pub shard_at : Parties → ℕ → ℕ → Option ShardNode
-shard_at w d s = if is_shard_of w.layout d s then slice_get w.shards (shard_index w.layout d s) else None
+shard_at w d sh = if is_shard_of w.layout d sh then slice_get w.shards (shard_index w.layout d sh) else None
 
 -- a stopped node is there, and is not up
 abbrev pub is_up : Parties → NodeId → Bool
 is_up w (Coord d) = maybe (coord_at w d) false (λ x. x.up)
-is_up w (ShardServer d s) = maybe (shard_at w d s) false (λ x. x.up)
+is_up w (ShardServer d sh) = maybe (shard_at w d sh) false (λ x. x.up)
 
 -- WHAT A PARTY DOES
 pub data Deed : Type 0 where
@@ -104,35 +104,35 @@ abbrev pub by_coord : Layout → ℕ → CoordNode → NodeCause → Deed
 by_coord c d x cause = ByCoord d x (coord_act c d x.durable x.volatile cause)
 
 abbrev pub by_shard : Layout → ℕ → ℕ → ShardNode → NodeCause → Deed
-by_shard c d s x cause = ByShard d s x (shard_act c d s x.durable x.volatile cause)
+by_shard c d sh x cause = ByShard d sh x (shard_act c d sh x.durable x.volatile cause)
 
 -- a stopped node and a client that is not there do nothing
 abbrev pub coord_does : Parties → ℕ → NodeCause → Deed
 coord_does w d cause = maybe (coord_at w d) Idle (λ x. if x.up then by_coord w.layout d x cause else Idle)
 
 abbrev pub shard_does : Parties → ℕ → ℕ → NodeCause → Deed
-shard_does w d s cause = maybe (shard_at w d s) Idle (λ x. if x.up then by_shard w.layout d s x cause else Idle)
+shard_does w d sh cause = maybe (shard_at w d sh) Idle (λ x. if x.up then by_shard w.layout d sh x cause else Idle)
 
 abbrev pub client_does : Parties → ℕ → ClientCause → Deed
 client_does w t cause = maybe (found nat_cmp w.clients t) Idle (λ x. ByClient t (client_act w.layout t x cause))
 
 abbrev pub received : Parties → Envelope → Party → Deed
 received w e (Node (Coord d)) = coord_does w d (Came e.from e.msg)
-received w e (Node (ShardServer d s)) = shard_does w d s (Came e.from e.msg)
+received w e (Node (ShardServer d sh)) = shard_does w d sh (Came e.from e.msg)
 received w e (ClientOf t) = client_does w t (Hears e.msg)
 
 abbrev pub catches : Parties → NodeId → Deed
 catches w (Coord d) = coord_does w d Catches
-catches w (ShardServer d s) = shard_does w d s Catches
+catches w (ShardServer d sh) = shard_does w d sh Catches
 
 abbrev pub stops : Parties → NodeId → Deed
 stops w (Coord d) = maybe (coord_at w d) Idle (λ x. CoordStops d x None)
-stops w (ShardServer d s) = maybe (shard_at w d s) Idle (λ x. ShardStops d s x None)
+stops w (ShardServer d sh) = maybe (shard_at w d sh) Idle (λ x. ShardStops d sh x None)
 
 -- a restart has what the log gives and nothing else, and begins by catching up
 abbrev pub restarts : Parties → NodeId → Deed
 restarts w (Coord d) = maybe (coord_at w d) Idle (λ x. by_coord w.layout d (coord_started x.log) Catches)
-restarts w (ShardServer d s) = maybe (shard_at w d s) Idle (λ x. by_shard w.layout d s (shard_started x.log) Catches)
+restarts w (ShardServer d sh) = maybe (shard_at w d sh) Idle (λ x. by_shard w.layout d sh (shard_started x.log) Catches)
 
 -- what the party does that acts in the event
 abbrev pub deed : Parties → List Envelope → Event → Deed
@@ -162,33 +162,33 @@ kept_record kept r = if kept then Some r else None
 -- a node that stops inside an event sends nothing; an event without a record goes on
 abbrev pub along : Course → Deed → Deed
 along (Stops kept) (ByCoord d x act) = maybe act.logs (ByCoord d x act) (λ r. CoordStops d x (kept_record kept r))
-along (Stops kept) (ByShard d s x act) = maybe act.logs (ByShard d s x act) (λ r. ShardStops d s x (kept_record kept r))
-along course done = done
+along (Stops kept) (ByShard d sh x act) = maybe act.logs (ByShard d sh x act) (λ r. ShardStops d sh x (kept_record kept r))
+along course d = d
 
-abbrev pub sends_of : Deed → Sends
+abbrev pub sends_of : Deed → Posts
 sends_of (ByClient t act) = act.sends
 sends_of (ByCoord d x act) = act.sends
-sends_of (ByShard d s x act) = act.sends
+sends_of (ByShard d sh x act) = act.sends
 sends_of _ = []
 
 abbrev pub lines_of : Deed → List Line
 lines_of (ByClient t act) = act.lines
 lines_of (CoordStops d x kept) = Stopped (Coord d) ∷ []
-lines_of (ShardStops d s x kept) = Stopped (ShardServer d s) ∷ []
+lines_of (ShardStops d sh x kept) = Stopped (ShardServer d sh) ∷ []
 lines_of _ = []
 
 -- POSTING: messages are numbered in the order sent
-abbrev pub envelopes : Party → Sends → List Envelope
+abbrev pub envelopes : Party → Posts → List Envelope
 envelopes from ms = map (λ (m : Party × Msg). record { from = from; to = m.0; msg = m.1 }) ms
 
-abbrev pub numbers_after : ℕ → Sends → List ℕ
+abbrev pub numbers_after : ℕ → Posts → List ℕ
 numbers_after n [] = []
 numbers_after n (m ∷ ms) = suc n ∷ numbers_after (suc n) ms
 
 abbrev pub bytes_of : List Envelope → ℕ
 bytes_of es = sum_by (λ (e : Envelope). length (envelope_bytes e)) es
 
-abbrev pub posted : World → Party → Sends → World
+abbrev pub posted : World → Party → Posts → World
 posted w from ms = record w {
   sent = w.sent ++ envelopes from ms;
   bytes = w.bytes + bytes_of (envelopes from ms);
@@ -214,16 +214,16 @@ with_coord w d x r = record w {
 }
 
 abbrev pub with_shard : Parties → ℕ → ℕ → ShardNode → Parties
-with_shard w d s x = record w { shards = slice_set w.shards (shard_index w.layout d s) x }
+with_shard w d sh x = record w { shards = slice_set w.shards (shard_index w.layout d sh) x }
 
 -- the parties after a deed
-abbrev pub moved : Parties → Deed → Parties
-moved w Idle = w
-moved w (ByClient t act) = with_client w t act.after
-moved w (ByCoord d x act) = with_coord w d (coord_after x act) act.logs
-moved w (ByShard d s x act) = with_shard w d s (shard_after x act)
-moved w (CoordStops d x kept) = with_coord w d (coord_stopped x kept) kept
-moved w (ShardStops d s x kept) = with_shard w d s (shard_stopped x kept)
+abbrev pub parties_after : Parties → Deed → Parties
+parties_after w Idle = w
+parties_after w (ByClient t act) = with_client w t act.after
+parties_after w (ByCoord d x act) = with_coord w d (coord_after x act) act.logs
+parties_after w (ByShard d sh x act) = with_shard w d sh (shard_after x act)
+parties_after w (CoordStops d x kept) = with_coord w d (coord_stopped x kept) kept
+parties_after w (ShardStops d sh x kept) = with_shard w d sh (shard_stopped x kept)
 
 abbrev pub with_parties : World → Parties → World
 with_parties w parties = record w { parties = parties }
@@ -232,9 +232,9 @@ abbrev pub with_new_client : Parties → ℕ → Parties
 with_new_client w t = record w { clients = put nat_cmp w.clients t new_client }
 
 -- a transaction begins with a new client
-abbrev pub joined : Parties → Event → Parties
-joined w (Begin t) = with_new_client w t
-joined w _ = w
+abbrev pub after_begin : Parties → Event → Parties
+after_begin w (Begin t) = with_new_client w t
+after_begin w _ = w
 
 -- what is delivered or lost is no longer pending
 abbrev pub still_pending : List ℕ → Event → List ℕ
@@ -246,9 +246,9 @@ abbrev pub delivered_after : List ℕ → Event → List ℕ
 delivered_after delivered (Deliver n) = delivered ++ n ∷ []
 delivered_after delivered _ = delivered
 
-abbrev pub begun : World → Event → World
-begun w e = record w {
-  parties = joined w.parties e;
+abbrev pub at_deed : World → Event → World
+at_deed w e = record w {
+  parties = after_begin w.parties e;
   pending = still_pending w.pending e;
   delivered = delivered_after w.delivered e;
   events = w.events + 1;
@@ -272,20 +272,20 @@ actor sent (CrashAt node k pick) = Node node
 actor sent (Restart node) = Node node
 
 -- the deed is done, and its messages are posted
-abbrev pub done : World → Party → Deed → World
-done w from d = posted (with_parties w (moved w.parties d)) from (sends_of d)
+abbrev pub after_deed : World → Party → Deed → World
+after_deed w from d = posted (with_parties w (parties_after w.parties d)) from (sends_of d)
 
 -- what is done in the event
 abbrev pub course_deed : World → Event → Course → Deed
 course_deed w e course = along course (deed w.parties w.sent e)
 
 abbrev pub step : World → Event → Course → World
-step w e course = done (begun w e) (actor w.sent e) (course_deed w e course)
+step w e course = after_deed (at_deed w e) (actor w.sent e) (course_deed w e course)
 
 -- the lines that the event prints
-abbrev pub starts : Event → List Line
-starts (Restart node) = Up node ∷ []
-starts _ = []
+abbrev pub restart_lines : Event → List Line
+restart_lines (Restart node) = Up node ∷ []
+restart_lines _ = []
 
 abbrev pub printed : World → Event → Course → List Line
-printed w e course = starts e ++ lines_of (course_deed w e course)
+printed w e course = restart_lines e ++ lines_of (course_deed w e course)

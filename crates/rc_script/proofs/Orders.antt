@@ -12,7 +12,7 @@ use Rattle.rc_script.specs.declared.command.Command.{Command}
 use Rattle.rc_script.specs.declared.command.Command.TheVariants as commands
 use Rattle.rc_script.specs.Words.{only_if}
 use Rattle.rc_script.specs.Spelling.{IsCommandOf}
-use Rattle.rc_script.specs.Stages.{World, rises, after_command, is_whole, dcs_of, shards_of}
+use Rattle.rc_script.specs.Stages.{World, is_above, after_command, is_whole, dcs_of, shards_of}
 use Rattle.rc_script.specs.Grammar.{IsOther, MayFollow, IsScript}
 use Rattle.rc_script.proofs.Steps.{only_if_some, and_second}
 use Rattle.rc_script.proofs.Texts.{and_first}
@@ -35,11 +35,11 @@ rise_none : (last : Option (List ℕ)) → rise_from last [] ≡ true
 rise_none None = refl
 rise_none (Some last) = refl
 
-rise_more : (last : Option (List ℕ)) (key : List ℕ) (keys : List (List ℕ)) → rises last key ≡ true → rise_after key keys ≡ true → rise_from last (key ∷ keys) ≡ true
+rise_more : (last : Option (List ℕ)) (key : List ℕ) (keys : List (List ℕ)) → is_above last key ≡ true → rise_after key keys ≡ true → rise_from last (key ∷ keys) ≡ true
 rise_more None key keys first more = more
 rise_more (Some last) key keys first more = rw (first, more) refl
 
-rise_parts : (last : Option (List ℕ)) (key : List ℕ) (keys : List (List ℕ)) → rise_from last (key ∷ keys) ≡ true → (rises last key ≡ true) × (rise_after key keys ≡ true)
+rise_parts : (last : Option (List ℕ)) (key : List ℕ) (keys : List (List ℕ)) → rise_from last (key ∷ keys) ≡ true → (is_above last key ≡ true) × (rise_after key keys ≡ true)
 rise_parts None key keys rising = (refl, rising)
 rise_parts (Some last) key keys rising = (and_first (is_lt (key_cmp last key)) (rise_after key keys) rising, and_second (is_lt (key_cmp last key)) (rise_after key keys) rising)
 
@@ -58,15 +58,15 @@ with_split w key = record { dcs = w.dcs; shards = w.shards; missing = w.missing 
 
 split_first : (w : World) (key : List ℕ) (cs : List Command) → ((v : World) → Follow (Some v) cs → Behind v cs) → Follow (Some w) (commands.Split key ∷ cs) → Behind w (commands.Split key ∷ cs)
 split_first w key cs behind f =
-    let b = only_if_some (ltb 0 w.missing && rises w.last key) (with_split w key) f.0 f.1 in
+    let b = only_if_some (ltb 0 w.missing && is_above w.last key) (with_split w key) f.0 f.1 in
     let more = behind (with_split w key) (subst (λ (v : World). Follow (Some v) cs) (sym b.1) f.3) in
-    let some = ltb-true 0 w.missing (and_first (ltb 0 w.missing) (rises w.last key) b.0) in
+    let some = ltb-true 0 w.missing (and_first (ltb 0 w.missing) (is_above w.last key) b.0) in
     record {
       splits = key ∷ more.splits;
       others = more.others;
       parts = ap (λ (xs : List Command). commands.Split key ∷ xs) more.parts;
       number = omega (arith, more.number);
-      rising = rise_more w.last key more.splits (and_second (ltb 0 w.missing) (rises w.last key) b.0) more.rising;
+      rising = rise_more w.last key more.splits (and_second (ltb 0 w.missing) (is_above w.last key) b.0) more.rising;
       keys = (f.2, more.keys);
       rest = more.rest;
     }
@@ -176,7 +176,7 @@ splits_follow (key ∷ keys) others w number rising of_keys rest =
     let parts = rise_parts w.last key keys rising in
     let some : ltb 0 w.missing ≡ true = lt-ltb _ _ (omega arith) in
     let fewer : length keys ≡ w.missing - 1 = omega arith in
-    let step : after_command (Some w) (commands.Split key) ≡ Some (with_split w key) = ap (λ (t : Bool). only_if (t && rises w.last key) (with_split w key)) some ∙ ap (λ (t : Bool). only_if t (with_split w key)) parts.0 in
+    let step : after_command (Some w) (commands.Split key) ≡ Some (with_split w key) = ap (λ (t : Bool). only_if (t && is_above w.last key) (with_split w key)) some ∙ ap (λ (t : Bool). only_if t (with_split w key)) parts.0 in
     (with_split w key, step, of_keys.0, splits_follow keys others (with_split w key) fewer parts.1 of_keys.1 rest)
 
 pub script_follows : (cs : List Command) → IsScript cs → Follow None cs
@@ -237,7 +237,7 @@ after_bounded None commands.Pending after small fits e = absurd (none-some after
 after_bounded None (commands.Show dc) after small fits e = absurd (none-some after e)
 after_bounded None commands.Order after small fits e = absurd (none-some after e)
 after_bounded (Some w) (commands.World n s weights) after small fits e = absurd (none-some after e)
-after_bounded (Some w) (commands.Split key) after small fits e = after_same (with_split w key) after (ltb 0 w.missing && rises w.last key) e small
+after_bounded (Some w) (commands.Split key) after small fits e = after_same (with_split w key) after (ltb 0 w.missing && is_above w.last key) e small
 after_bounded (Some w) (commands.Begin tx) after small fits e = after_same w after (eqb w.missing 0) e small
 after_bounded (Some w) (commands.Read tx key) after small fits e = after_same w after (eqb w.missing 0) e small
 after_bounded (Some w) (commands.Write tx key val) after small fits e = after_same w after (eqb w.missing 0) e small

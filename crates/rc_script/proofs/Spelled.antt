@@ -14,7 +14,7 @@ use Rattle.rc_script.specs.declared.verb.Verb.{Verb}
 use Rattle.rc_script.specs.declared.verb.Verb.TheVariants as verbs
 use Rattle.rc_script.specs.declared.command.Command.{Command}
 use Rattle.rc_script.specs.declared.command.Command.TheVariants as commands
-use Rattle.rc_script.specs.Words.{◌>>=◌, only_if, first_word, later_words, behind, number_in, numbers_of, tx_of, dc_of, node_of, key_of, val_of}
+use Rattle.rc_script.specs.Words.{◌>>=◌, only_if, first_word, later_words, text_after, number_in, numbers_of, tx_of, dc_of, node_of, key_of, val_of}
 use Rattle.rc_script.specs.Commands.{verb_name, all_verbs, verb_among, verb_of, tx_and_key, weights_of, world_of, write_of, messages_of, crash_of, take_of, bare_command, plain_command, command_with, command_from, command_of}
 use Rattle.rc_script.specs.Spelling.{tx_name, dc_name, node_name, weight_words, Spells, IsTx, IsNodeOf, AreMessages, AreWeights, IsCommandOf}
 use Rattle.rc_script.specs.Stages.{FitsWorld}
@@ -117,9 +117,9 @@ numbers_behind word words numbers e some = ap (λ (w : List ℕ). word ++ 32 ∷
 crash_taken : (dcs shards : ℕ) (node : NodeId) (words : Option (List ℕ)) (c : Command) → IsNodeOf dcs shards node → crash_of node words ≡ Some c → Taken dcs shards (codes "crash" ++ 32 ∷ with_later 32 (node_name node) words) c
 crash_taken dcs shards node None c fits e = is_taken dcs shards (codes "crash" ++ 32 ∷ node_name node) (commands.Crash node) c e (inl refl, fits)
 crash_taken dcs shards node (Some words) c fits e =
-    let a = bind_some (behind (codes "at ") words) (λ from_call. later_words from_call >>= λ from_pick. behind (codes "pick ") from_pick >>= λ pick_word. number_in 1 1000 (first_word from_call) >>= λ call. number_in 0 3 pick_word >>= λ pick. Some (commands.CrashAt node call pick)) c e in
-    let b = bind_some (later_words a.0) (λ from_pick. behind (codes "pick ") from_pick >>= λ pick_word. number_in 1 1000 (first_word a.0) >>= λ call. number_in 0 3 pick_word >>= λ pick. Some (commands.CrashAt node call pick)) c a.2 in
-    let d = bind_some (behind (codes "pick ") b.0) (λ pick_word. number_in 1 1000 (first_word a.0) >>= λ call. number_in 0 3 pick_word >>= λ pick. Some (commands.CrashAt node call pick)) c b.2 in
+    let a = bind_some (text_after (codes "at ") words) (λ from_call. later_words from_call >>= λ from_pick. text_after (codes "pick ") from_pick >>= λ pick_word. number_in 1 1000 (first_word from_call) >>= λ call. number_in 0 3 pick_word >>= λ pick. Some (commands.CrashAt node call pick)) c e in
+    let b = bind_some (later_words a.0) (λ from_pick. text_after (codes "pick ") from_pick >>= λ pick_word. number_in 1 1000 (first_word a.0) >>= λ call. number_in 0 3 pick_word >>= λ pick. Some (commands.CrashAt node call pick)) c a.2 in
+    let d = bind_some (text_after (codes "pick ") b.0) (λ pick_word. number_in 1 1000 (first_word a.0) >>= λ call. number_in 0 3 pick_word >>= λ pick. Some (commands.CrashAt node call pick)) c b.2 in
     let f = bind_some (number_in 1 1000 (first_word a.0)) (λ call. number_in 0 3 d.0 >>= λ pick. Some (commands.CrashAt node call pick)) c d.2 in
     let g = bind_some (number_in 0 3 d.0) (λ pick. Some (commands.CrashAt node f.0 pick)) c f.2 in
     let call = number_in_taken 1 1000 (first_word a.0) f.0 (omega arith) f.1 in

@@ -10,7 +10,7 @@ use Rattle.rc_script.specs.declared.verb.Verb.{Verb}
 use Rattle.rc_script.specs.declared.verb.Verb.TheVariants as verbs
 use Rattle.rc_script.specs.declared.command.Command.{Command}
 use Rattle.rc_script.specs.declared.command.Command.TheVariants as commands
-use Rattle.rc_script.specs.Words.{◌>>=◌, only_if, cut, first_word, later_words, behind, number_in, tx_of, dc_of, node_of, key_of, val_of}
+use Rattle.rc_script.specs.Words.{◌>>=◌, only_if, cut, first_word, later_words, text_after, number_in, tx_of, dc_of, node_of, key_of, val_of}
 use Rattle.rc_script.specs.Commands.{verb_of, tx_and_key, weights_of, world_of, write_of, messages_of, crash_of, take_of, plain_command, command_from, command_of}
 use Rattle.rc_script.specs.Spelling.{tx_name, dc_name, node_name, weight_words, spelling, IsShortWrite, Spells, IsIn, IsTx, IsNodeOf, AreMessages, AreWeights, IsCommandOf}
 use Rattle.rc_script.proofs.Numerals.{number_in_again}
@@ -71,7 +71,7 @@ messages_again numbers fits =
 
 crash_again : (node : NodeId) (call pick : ℕ) → IsIn 1 1000 call → IsIn 0 3 pick → crash_of node (Some (codes "at " ++ (decimal call ++ 32 ∷ (codes "pick " ++ decimal pick)))) ≡ Some (commands.CrashAt node call pick)
 crash_again node call pick of_call of_pick =
-    ap (λ (p : List ℕ × Option (List ℕ)). p.1 >>= λ from_pick. behind (codes "pick ") from_pick >>= λ pick_word. number_in 1 1000 p.0 >>= λ call. number_in 0 3 pick_word >>= λ pick. Some (commands.CrashAt node call pick)) (cut_joined 32 (decimal call) (codes "pick " ++ decimal pick) (lacks_decimal 32 call (omega arith) (omega (arith, of_call.1))))
+    ap (λ (p : List ℕ × Option (List ℕ)). p.1 >>= λ from_pick. text_after (codes "pick ") from_pick >>= λ pick_word. number_in 1 1000 p.0 >>= λ call. number_in 0 3 pick_word >>= λ pick. Some (commands.CrashAt node call pick)) (cut_joined 32 (decimal call) (codes "pick " ++ decimal pick) (lacks_decimal 32 call (omega arith) (omega (arith, of_call.1))))
     ∙ rw (number_in_again 1 1000 call (omega arith) of_call, number_in_again 0 3 pick (omega arith) of_pick) refl
 
 take_again : (dcs dc tx : ℕ) → dcs ≤ 7 → IsIn 1 dcs dc → IsTx tx → take_of dcs (dc_name dc ++ 32 ∷ tx_name tx) ≡ Some (commands.Take dc tx)

@@ -15,7 +15,7 @@ use Rattle.std.proofs.lemmas.Fmt.{decimal_by_steps}
 use Rattle.rc_ids.specs.declared.fault.TextFault.{TextFault}
 use Rattle.rc_ids.specs.Texts.{is_key_byte, is_value_byte, IsKey, IsText, key_fault, value_fault, bad_byte}
 use Rattle.rc_ids.proofs.TextFacts.{all_pass, none_fails}
-use Rattle.rc_script.specs.Words.{cut, key_from, key_of, val_of, behind}
+use Rattle.rc_script.specs.Words.{cut, key_from, key_of, val_of, text_after}
 use Rattle.rc_script.proofs.Cuts.{cut-cons_yes, cut-cons_no}
 use Rattle.rc_script.proofs.Steps.{and_second, only_if_some}
 
@@ -129,7 +129,7 @@ lacks_key k fits = lacks_from 32 is_key_byte refl k fits.2
 
 -- ---- a text at the front
 
-pub behind_taken : (front text rest : List ℕ) → behind front text ≡ Some rest → text ≡ front ++ rest
+pub behind_taken : (front text rest : List ℕ) → text_after front text ≡ Some rest → text ≡ front ++ rest
 behind_taken front text rest e =
     let a = only_if_some (bytes_eq (take (length front) text) front) (drop (length front) text) rest e in
     let same : take (length front) text ≡ front = (bytes_eq-Decides (take (length front) text) front).0 a.0 in

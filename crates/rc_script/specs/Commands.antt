@@ -7,7 +7,7 @@ use Rattle.rc_script.specs.declared.verb.Verb.{Verb}
 use Rattle.rc_script.specs.declared.verb.Verb.TheVariants as verbs
 use Rattle.rc_script.specs.declared.command.Command.{Command}
 use Rattle.rc_script.specs.declared.command.Command.TheVariants as commands
-use Rattle.rc_script.specs.Words.{◌>>=◌, only_if, first_word, later_words, behind, number_in, numbers_of, tx_of, dc_of, node_of, key_of, val_of}
+use Rattle.rc_script.specs.Words.{◌>>=◌, only_if, first_word, later_words, text_after, number_in, numbers_of, tx_of, dc_of, node_of, key_of, val_of}
 
 -- the first words of the lines
 abbrev pub verb_name : Verb → List ℕ
@@ -106,9 +106,9 @@ messages_of words = do
 abbrev pub crash_of : NodeId → Option (List ℕ) → Option Command
 crash_of node None = Some (commands.Crash node)
 crash_of node (Some words) = do
-  from_call ← behind (codes "at ") words
+  from_call ← text_after (codes "at ") words
   from_pick ← later_words from_call
-  pick_word ← behind (codes "pick ") from_pick
+  pick_word ← text_after (codes "pick ") from_pick
   call ← number_in 1 1000 (first_word from_call)
   pick ← number_in 0 3 pick_word
   Some (commands.CrashAt node call pick)

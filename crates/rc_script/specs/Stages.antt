@@ -14,16 +14,16 @@ pub record World : Type 0 where
   pub last : Option (List ℕ)
 
 -- a split is above the one before
-abbrev pub rises : Option (List ℕ) → List ℕ → Bool
-rises None key = true
-rises (Some last) key = is_lt (key_cmp last key)
+abbrev pub is_above : Option (List ℕ) → List ℕ → Bool
+is_above None key = true
+is_above (Some last) key = is_lt (key_cmp last key)
 
 -- the world after a command, where the command may stand there
 abbrev pub after_command : Option World → Command → Option World
 after_command None (commands.World dcs shards weights) = Some (record { dcs = dcs; shards = shards; missing = shards - 1; last = None })
 after_command None _ = None
 after_command (Some world) (commands.World dcs shards weights) = None
-after_command (Some world) (commands.Split key) = only_if (nat_lt 0 world.missing && rises world.last key) (record { dcs = world.dcs; shards = world.shards; missing = world.missing - 1; last = Some key })
+after_command (Some world) (commands.Split key) = only_if (nat_lt 0 world.missing && is_above world.last key) (record { dcs = world.dcs; shards = world.shards; missing = world.missing - 1; last = Some key })
 after_command (Some world) _ = only_if (world.missing == 0) world
 
 -- a world has at most 7 datacentres, and 1 to 8 shards

@@ -35,8 +35,8 @@ abbrev pub later_words : List ℕ → Option (List ℕ)
 later_words text = (cut 32 text).1
 
 -- what follows a text at the front
-abbrev pub behind : List ℕ → List ℕ → Option (List ℕ)
-behind front text = only_if (bytes_eq (take (length front) text) front) (drop (length front) text)
+abbrev pub text_after : List ℕ → List ℕ → Option (List ℕ)
+text_after front text = only_if (bytes_eq (take (length front) text) front) (drop (length front) text)
 
 -- ---- numbers
 

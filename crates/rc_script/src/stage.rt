@@ -1,6 +1,6 @@
 //! Which commands may stand where.
 ghost use Rattle.std.specs.Prelude.{◌≡◌, ◌≤◌, ◌-◌, IfSome, IsTrue, ◌↔◌};
-ghost use Rattle.rc_script.specs.Stages.{after_command as after_command_lem, is_whole as is_whole_lem, dcs_of, shards_of, rises, FitsWorld};
+ghost use Rattle.rc_script.specs.Stages.{after_command as after_command_lem, is_whole as is_whole_lem, dcs_of, shards_of, is_above, FitsWorld};
 
 use crate::command::Command;
 use rc_ids::Key;
@@ -69,7 +69,7 @@ impl World {
 
 /// Whether the key is above the last split.
 fn is_above(last: &Option<Key>, key: &Key) -> bool
-    ensures { result ≡ rises last.now key.now }
+    ensures { result ≡ is_above last.now key.now }
 {
     match last {
         None => true,

@@ -1,7 +1,7 @@
 //! Words, and the numbers and names that they spell.
 ghost use Rattle.std.specs.Prelude.{◌≡◌, ◌≤◌, ◌<◌, length, IfSome, IfOk, Some, None, ◌==◌, position};
 ghost use Rattle.std.specs.Option.{option_map};
-ghost use Rattle.rc_script.specs.Words.{cut as cut_lem, cut_at, behind as behind_lem, with_digit, with_digits, number_up_to as number_up_to_lem, number_in as number_in_lem, named as named_lem, tx_of, dc_of, shard_of, node_of, key_of, val_of};
+ghost use Rattle.rc_script.specs.Words.{cut as cut_lem, cut_at, text_after as behind_lem, with_digit, with_digits, number_up_to as number_up_to_lem, number_in as number_in_lem, named as named_lem, tx_of, dc_of, shard_of, node_of, key_of, val_of};
 
 use rc_ids::{DcId, Key, NoMemory, NodeId, ShardId, TextFault, TxId, Val};
 use std::alloc::Global;

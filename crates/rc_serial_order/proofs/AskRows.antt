@@ -11,7 +11,7 @@ use Rattle.rc_msg.specs.declared.msg.Msg.{Msg}
 use Rattle.rc_msg.specs.declared.msg.Msg.TheVariants.{ReadAsk, ReadCancel, Granted, Prepare, Prepared, Finish, CatchAsk, CatchPage}
 use Rattle.rc_record.specs.ShardState.{ShardDurable, version_at, settled_all, shard_applied}
 use Rattle.rc_protocol.specs.Messages.{coordinator, client_of}
-use Rattle.rc_protocol.specs.Shard.{Mark, mark_cmp, ShardVolatile, ShardAct, holder, shard_stays, test, grant_of, is_free, grants, ignores_ask, on_read_ask, is_other, on_prepare, on_finish, forgotten, forgotten_all, unfinished, is_next_page, with_place, asks_next, then_says, takes_page, on_catch_page, shard_row}
+use Rattle.rc_protocol.specs.Shard.{Mark, mark_cmp, ShardVolatile, ShardAct, holder, shard_stays, test, grant_of, is_free, grants, ignores_ask, on_read_ask, is_other, on_prepare, on_finish, forgotten, forgotten_all, unfinished, is_next_shard_page, with_shard_cursor, asks_next_shard_page, then_says, takes_page, on_catch_page, shard_row}
 use Rattle.rc_protocol.specs.Nodes.{applied}
 use Rattle.rc_agreement.proofs.Cases.{on_cond, on_maybe}
 use Rattle.rc_agreement.proofs.Tables.{in_either, in_map}
@@ -60,7 +60,7 @@ module _ (c : Layout) (d sh : ℕ) (s : ShardDurable) (v : ShardVolatile) where
       to_map_in (Grants d z v k) (grant_of d z.rows) (filter (is_free z.parts) w.waiting)
       (λ x i. let f = in_filtered (is_free z.parts) x w.waiting i in record { to_it = refl; own = refl; asked = inl (sub x f.0); version = refl; free = is_none _ f.1 })
 
-  next_asks : (k : NodeCause) (z : ShardDurable) (place : ℕ) (es : List (ℕ × Decision)) → EachTo (Grants d z v k) (asks_next d place es)
+  next_asks : (k : NodeCause) (z : ShardDurable) (place : ℕ) (es : List (ℕ × Decision)) → EachTo (Grants d z v k) (asks_next_shard_page d place es)
   next_asks k z place es = on_cond (EachTo (Grants d z v k)) (length es == 64) _ _ (λ _. to_one (Grants d z v k) (coordinator d) (CatchAsk (place + length es)) tt) (λ _. to_none (Grants d z v k))
 
   ask : (from : Party) (t : ℕ) (q : List ℕ) → AskRow d s v (Came from (ReadAsk t q)) (on_read_ask d s v t q)
@@ -100,20 +100,20 @@ module _ (c : Layout) (d sh : ℕ) (s : ShardDurable) (v : ShardVolatile) where
 
   page : (k : NodeCause) (place : ℕ) (es : List (ℕ × Decision)) → AskRow d s v k (on_catch_page c d sh s v place es)
   page k place es =
-      on_cond (AskRow d s v k) (is_next_page v place es) _ _ (λ _. takes (unfinished c sh s es)) (λ _. idle k)
+      on_cond (AskRow d s v k) (is_next_shard_page v place es) _ _ (λ _. takes (unfinished c sh s es)) (λ _. idle k)
     where
-      takes : (new : List (ℕ × Decision)) → AskRow d s v k (then_says (takes_page d s (with_place v (place + length es)) new) (asks_next d place es))
+      takes : (new : List (ℕ × Decision)) → AskRow d s v k (then_says (takes_page d s (with_shard_cursor v (place + length es)) new) (asks_next_shard_page d place es))
       takes [] = record { waits = λ q t i. inl i; says = to_both (Grants d s v k) [] _ (to_none (Grants d s v k)) (next_asks k s place es) }
       takes (x ∷ xs) =
           let z : ShardDurable = settled_all s (x ∷ xs) in
-          let w : ShardVolatile = forgotten_all (with_place v (place + length es)) (x ∷ xs) in
+          let w : ShardVolatile = forgotten_all (with_shard_cursor v (place + length es)) (x ∷ xs) in
           record {
-            waits = λ q u i. inl (left_in (with_place v (place + length es)) (x ∷ xs) (q, u) (in_filtered (λ (m : Mark). not (is_free z.parts m)) (q, u) w.waiting i).0);
-            says = to_both (Grants d z v k) _ _ (grants_all k z w (left_in (with_place v (place + length es)) (x ∷ xs))) (next_asks k z place es);
+            waits = λ q u i. inl (left_in (with_shard_cursor v (place + length es)) (x ∷ xs) (q, u) (in_filtered (λ (m : Mark). not (is_free z.parts m)) (q, u) w.waiting i).0);
+            says = to_both (Grants d z v k) _ _ (grants_all k z w (left_in (with_shard_cursor v (place + length es)) (x ∷ xs))) (next_asks k z place es);
           }
 
   pub ask_row : (k : NodeCause) → AskRow d s v k (shard_act c d sh s v k)
-  ask_row Catches = record { waits = λ q t i. inl i; says = to_one (Grants d s v Catches) (coordinator d) (CatchAsk v.place) tt }
+  ask_row Catches = record { waits = λ q t i. inl i; says = to_one (Grants d s v Catches) (coordinator d) (CatchAsk v.cursor) tt }
   ask_row (Takes t) = idle (Takes t)
   ask_row (Came from m) = comes m
     where

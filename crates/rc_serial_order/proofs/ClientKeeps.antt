@@ -9,9 +9,9 @@ use Rattle.rc_body.specs.declared.decision.Decision.TheVariants.{Commit}
 use Rattle.rc_msg.specs.declared.msg.Msg.{Msg}
 use Rattle.rc_msg.specs.declared.msg.Msg.TheVariants.{ReadAsk, ReadCancel, Granted, Prepare, Prepared, Propose, Voted, Refused, Decided, Abandon}
 use Rattle.rc_report.specs.declared.line.Line.{Line}
-use Rattle.rc_protocol.specs.Messages.{Sends, coordinator, shard_server, to_all}
+use Rattle.rc_protocol.specs.Messages.{Posts, coordinator, shard_server, to_all}
 use Rattle.rc_protocol.specs.Coordinator.{is_decided_by}
-use Rattle.rc_protocol.specs.Client.{Client, ClientAct, Proposed, Slot, KeyRead, Complete, Grant, is_open, is_over, is_committing, is_proposed, reads_on, client_stays, in_phase, with_slots, is_worn, proposes, body_of, slot_of, slot_set, asks, asks_new, reads_again, do_read, do_write, is_under_way, waits_for_read, reads_begun, unread_keys, asks_all, do_commit, drops_read, do_cancel, asks_rest, asks_again, waiting_keys, do_retry, grants_of, granted_by, cancel_to, cancels, completed, read_line, goes_on, after_read, unless_refused, with_grant, takes_grant, wants_grant, on_granted, counts_refusal, client_row, ClientRefusal, KeyWornOut}
+use Rattle.rc_protocol.specs.Client.{Client, ClientAct, Proposed, Slot, KeyRead, Complete, Grant, is_open, is_over, is_committing, is_proposed, reads_on, client_stays, in_phase, with_slots, is_worn, proposes, body_of, slot_of, slot_set, asks, asks_new, reads_again, do_read, do_write, is_under_way, waits_for_read, reads_begun, unread_keys, asks_all, do_commit, drops_read, do_cancel, asks_rest, asks_again, waiting_keys, do_retry, grants_of, granted_by, cancel_to, cancels, completed, read_line, proposes_once_read, after_read, unless_refused, with_grant, takes_grant, wants_grant, on_granted, counts_refusal, client_row, ClientRefusal, KeyWornOut}
 use Rattle.rc_agreement.proofs.Cases.{on_cond, on_maybe}
 use Rattle.rc_protocol.specs.Acts.{ClientCause, Hears, Reads, Writes, Commits, Cancels, Retries, Vanishes, client_by_row}
 use Rattle.rc_agreement.proofs.Ballots.{Late}
@@ -41,7 +41,7 @@ module _ (c : Layout) (t : ℕ) (x : Client) where
   abbrev K : ClientAct → Type 0
   K a = Keeps c x a
 
-  calm : (ms : Sends) (ls : List Line) (refused : Option ClientRefusal) → EachTo (DrabTo c) ms → K (record { after = x; sends = ms; lines = ls; refused = refused })
+  calm : (ms : Posts) (ls : List Line) (refused : Option ClientRefusal) → EachTo (DrabTo c) ms → K (record { after = x; sends = ms; lines = ls; refused = refused })
   calm ms ls refused q = record { drab = q; late = λ l. (l, refl) }
 
   still : K (client_stays x)
@@ -76,7 +76,7 @@ module _ (c : Layout) (t : ℕ) (x : Client) where
       again (Complete v y) = calm [] _ None (to_none (DrabTo c))
       again _ = still
 
-  proposes_keeps : (y : Client) (ms : Sends) (ls : List Line) → EachTo (DrabTo c) ms → reads_on x.phase ≡ true → K (unless_refused x (after_read ms ls (proposes c t y)))
+  proposes_keeps : (y : Client) (ms : Posts) (ls : List Line) → EachTo (DrabTo c) ms → reads_on x.phase ≡ true → K (unless_refused x (after_read ms ls (proposes c t y)))
   proposes_keeps y ms ls q e =
       on_cond (λ a. K (unless_refused x (after_read ms ls a))) (is_worn y.slots) _ _
       (λ _. calm [] [] (Some KeyWornOut) (to_none (DrabTo c)))
@@ -102,7 +102,7 @@ module _ (c : Layout) (t : ℕ) (x : Client) where
       (λ _. calm _ [] None (to_one (DrabTo c) (coordinator (home c t)) (Abandon t) tt)) (λ _. calm _ [] None (own_drab x)))
       (λ _. on_cond K (reads_on x.phase) _ _ (λ _. calm _ [] None (again_drab (waiting_keys x.slots))) (λ _. still))
 
-  goes_keeps : (y : Client) (ms : Sends) (ls : List Line) → EachTo (DrabTo c) ms → reads_on x.phase ≡ true → K (unless_refused x (after_read ms ls (goes_on c t y)))
+  goes_keeps : (y : Client) (ms : Posts) (ls : List Line) → EachTo (DrabTo c) ms → reads_on x.phase ≡ true → K (unless_refused x (after_read ms ls (proposes_once_read c t y)))
   goes_keeps y ms ls q e =
       on_cond (λ a. K (unless_refused x (after_read ms ls a))) (is_committing y.phase && not (waits_for_read y.slots)) (proposes c t y) (client_stays y)
       (λ _. proposes_keeps y ms ls q e)

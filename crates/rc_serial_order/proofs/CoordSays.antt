@@ -17,7 +17,7 @@ use Rattle.rc_record.specs.declared.record.Record.{Record}
 use Rattle.rc_record.specs.declared.record.Record.TheVariants.{Promised, Accepted}
 use Rattle.rc_record.specs.CoordState.{CoordDurable, promise_of, outcome_of as listed_outcome}
 use Rattle.rc_protocol.specs.Messages.{coordinator, shard_server, client_of, one, to_each, to_all, most_entries}
-use Rattle.rc_protocol.specs.Coordinator.{CoordVolatile, CoordAct, Gather, coord_stays, coord_says, proposer, vote, accepts, finish_to, finishes, forgotten, learns, opens, takes_over, has_all, with_gather, prepare_to, gathers_on, gather_at, takes_proposal, refuses, accepted_at, on_propose, waiting_gather, said_yes, with_yes, on_prepared, promises_at, on_ask, hears, chooses, waiting_takeover, with_takeover, proposed, on_promise, is_decided_by, tally_of, with_vote, on_voted, on_decided, page_from, place_of, is_next_page, with_place, undecided, forgotten_all, finishes_all, outcomes_record, asks_next, takes_page, on_catch_page, do_catch, coord_row}
+use Rattle.rc_protocol.specs.Coordinator.{CoordVolatile, CoordAct, GatherState, coord_stays, coord_says, proposer, vote, accepts, finish_to, finish_posts, forgotten, coord_learns, opens, takes_over, has_all, with_gather, prepare_to, gathers_on, gather_at, takes_proposal, refuses, accepted_at, on_propose, waiting_gather, said_yes, with_yes, on_prepared, promises_at, on_ask, hears, chooses, waiting_takeover, with_takeover, proposed, on_promise, is_decided_by, tally_of, with_vote, on_voted, on_decided, page_from, cursor_of, is_next_coord_page, with_coord_cursor, undecided, forgotten_all, finish_all_posts, outcomes_record, asks_next_coord_page, takes_page, on_catch_page, do_catch, coord_row}
 use Rattle.rc_agreement.proofs.Cases.{on_cond, on_maybe, some_is, never}
 use Rattle.rc_agreement.proofs.Tables.{put_same, found_in, in_put, in_without, in_added}
 use Rattle.rc_protocol.specs.Acts.{NodeCause, Came, Takes, Catches, coord_act}
@@ -26,27 +26,27 @@ use Rattle.rc_agreement.proofs.Sends.{EachTo, to_none, to_one, to_both, to_many,
 
 -- what it says
 abbrev pub SaysSo : Layout → ℕ → CoordVolatile → Party → Msg → Type 0
-SaysSo c d w to (Prepare t p) = (sh : ℕ) × (to ≡ shard_server d sh) × (g : Gather) × In (t, g) w.gathers × (p ≡ part c sh g.body)
+SaysSo c d w to (Prepare t p) = (sh : ℕ) × (to ≡ shard_server d sh) × (g : GatherState) × In (t, g) w.gathers × (p ≡ part c sh g.body)
 SaysSo c d w to (Prepared t x None) = ⊥
 SaysSo c d w to (Granted t key e v y) = ⊥
 SaysSo c d w to (ReadAsk t key) = ⊥
 SaysSo c d w to _ = Unit {0}
 
 pub record YesBefore (v : CoordVolatile) (t sh : ℕ) : Type 0 where
-  pub gather : Gather
+  pub gather : GatherState
   pub among : In (t, gather) v.gathers
   pub yes : In sh gather.yes
 
 -- a gather that a commit is voted by
 pub record Full (c : Layout) (v : CoordVolatile) (t : ℕ) (x : List Entry) : Type 0 where
-  pub gather : Gather
+  pub gather : GatherState
   pub among : In (t, gather) v.gathers
   pub body : gather.body ≡ x
   pub all : (sh : ℕ) → In sh (touched c x) → In sh gather.yes
 
 pub record CoordRow (c : Layout) (d : ℕ) (v : CoordVolatile) (k : NodeCause) (a : CoordAct) : Type 0 where
   pub says : EachTo (SaysSo c d a.after) a.sends
-  pub yes : (t : ℕ) (g : Gather) → In (t, g) a.after.gathers → (sh : ℕ) → In sh g.yes → YesBefore v t sh ⊎ ((from : Party) × (k ≡ Came from (Prepared t sh None)))
+  pub yes : (t : ℕ) (g : GatherState) → In (t, g) a.after.gathers → (sh : ℕ) → In sh g.yes → YesBefore v t sh ⊎ ((from : Party) × (k ≡ Came from (Prepared t sh None)))
   pub votes : (t b : ℕ) (x : List Entry) → a.logs ≡ Some (Accepted t b (Commit x)) → Full c a.after t x
 
 -- no vote for a commit
@@ -59,7 +59,7 @@ module _ (c : Layout) (d : ℕ) (s : CoordDurable) (v : CoordVolatile) (k : Node
   R = CoordRow c d v k
 
   abbrev Fewer : CoordVolatile → Type 0
-  Fewer w = (t : ℕ) (g : Gather) → In (t, g) w.gathers → In (t, g) v.gathers
+  Fewer w = (t : ℕ) (g : GatherState) → In (t, g) w.gathers → In (t, g) v.gathers
 
   same : Fewer v
   same t g i = i
@@ -79,7 +79,7 @@ module _ (c : Layout) (d : ℕ) (s : CoordDurable) (v : CoordVolatile) (k : Node
   vote_so : (w : CoordVolatile) (t b : ℕ) (o : Decision) → EachTo (SaysSo c d w) (vote c d t b o)
   vote_so w t b o = to_both (SaysSo c d w) _ _ (to_coords (SaysSo c d w) c (Voted t b d o) (λ e. tt)) (to_one (SaysSo c d w) (client_of t) (Voted t b d o) tt)
 
-  finish_so : (w : CoordVolatile) (t : ℕ) (o : Decision) → EachTo (SaysSo c d w) (finishes c d t o)
+  finish_so : (w : CoordVolatile) (t : ℕ) (o : Decision) → EachTo (SaysSo c d w) (finish_posts c d t o)
   finish_so w t o = to_many (SaysSo c d w) c.shards (finish_to c d t o) (λ x. to_it x o)
     where
       to_it : (x : ℕ) (o : Decision) → EachTo (SaysSo c d w) (finish_to c d t o x)
@@ -89,10 +89,10 @@ module _ (c : Layout) (d : ℕ) (s : CoordDurable) (v : CoordVolatile) (k : Node
   forgets : (w : CoordVolatile) (t : ℕ) → Fewer w → Fewer (forgotten w t)
   forgets w t f u g i = f u g (in_without t w.gathers (u, g) i)
 
-  learns_row : (w : CoordVolatile) (t : ℕ) (o : Decision) → Fewer w → R (learns c d w t o)
-  learns_row w t o f = plain (learns c d w t o) (finish_so (forgotten w t) t o) (forgets w t f) tt
+  learns_row : (w : CoordVolatile) (t : ℕ) (o : Decision) → Fewer w → R (coord_learns c d w t o)
+  learns_row w t o f = plain (coord_learns c d w t o) (finish_so (forgotten w t) t o) (forgets w t f) tt
 
-  finish_all_so : (w : CoordVolatile) (es : List (ℕ × Decision)) → EachTo (SaysSo c d w) (finishes_all c d es)
+  finish_all_so : (w : CoordVolatile) (es : List (ℕ × Decision)) → EachTo (SaysSo c d w) (finish_all_posts c d es)
   finish_all_so w [] = to_none (SaysSo c d w)
   finish_all_so w (e ∷ es) = to_both (SaysSo c d w) _ _ (finish_so w e.0 e.1) (finish_all_so w es)
 
@@ -107,29 +107,29 @@ module _ (c : Layout) (d : ℕ) (s : CoordDurable) (v : CoordVolatile) (k : Node
   page_row : (from place : ℕ) (es : List (ℕ × Decision)) → R (on_catch_page c d s v from place es)
   page_row from place es =
       let new : List (ℕ × Decision) = undecided s.outcomes es in
-      let w : CoordVolatile = with_place v from (place + length es) in
-      on_cond R (is_next_page d v from place es) _ _
-      (λ _. plain (takes_page c d w new (asks_next (coordinator from) place es))
+      let w : CoordVolatile = with_coord_cursor v from (place + length es) in
+      on_cond R (is_next_coord_page d v from place es) _ _
+      (λ _. plain (takes_page c d w new (asks_next_coord_page (coordinator from) place es))
       (to_both (SaysSo c d (forgotten_all w new)) _ _ (finish_all_so (forgotten_all w new) new)
       (on_cond (EachTo (SaysSo c d (forgotten_all w new))) (length es == most_entries) _ _ (λ _. to_one (SaysSo c d (forgotten_all w new)) (coordinator from) (CatchAsk (place + length es)) tt) (λ _. to_none (SaysSo c d (forgotten_all w new)))))
       (forgets_all w new same) (no_page_vote new))
       (λ _. idle)
 
   -- gathers
-  abbrev Yeses : ℕ → Gather → Type 0
+  abbrev Yeses : ℕ → GatherState → Type 0
   Yeses t g = (sh : ℕ) → In sh g.yes → YesBefore v t sh ⊎ ((from : Party) × (k ≡ Came from (Prepared t sh None)))
 
-  yes_put : (t : ℕ) (g : Gather) → Yeses t g → (u : ℕ) (h : Gather) → In (u, h) (put nat_cmp v.gathers t g) → Yeses u h
+  yes_put : (t : ℕ) (g : GatherState) → Yeses t g → (u : ℕ) (h : GatherState) → In (u, h) (put nat_cmp v.gathers t g) → Yeses u h
   yes_put t g y u h i =
       ⊎_elim
-      (λ (e : (t, g) ≡ (u, h)). subst (λ (z : ℕ × Gather). Yeses z.0 z.1) e y)
+      (λ (e : (t, g) ≡ (u, h)). subst (λ (z : ℕ × GatherState). Yeses z.0 z.1) e y)
       (λ (old : In (u, h) v.gathers). λ sh j. inl (record { gather = h; among = old; yes = j }))
       (in_put t g v.gathers (u, h) i)
 
-  here : (t : ℕ) (g : Gather) → In (t, g) (put nat_cmp v.gathers t g)
+  here : (t : ℕ) (g : GatherState) → In (t, g) (put nat_cmp v.gathers t g)
   here t g = found_in t (put nat_cmp v.gathers t g) g (put_same t g v.gathers)
 
-  accepts_row : (t : ℕ) (g : Gather) → Yeses t g → has_all c g ≡ true → R (accepts c d (with_gather v t g) t g.ballot (Commit g.body))
+  accepts_row : (t : ℕ) (g : GatherState) → Yeses t g → has_all c g ≡ true → R (accepts c d (with_gather v t g) t g.ballot (Commit g.body))
   accepts_row t g y all =
       record {
         says = vote_so (with_gather v t g) t g.ballot (Commit g.body);
@@ -141,7 +141,7 @@ module _ (c : Layout) (d : ℕ) (s : CoordDurable) (v : CoordVolatile) (k : Node
             (record { gather = g; among = here t g; body = refl; all = all_heard g.yes (touched c g.body) all });
       }
 
-  gathers_row : (t : ℕ) (g : Gather) → Yeses t g → R (gathers_on c d v t g)
+  gathers_row : (t : ℕ) (g : GatherState) → Yeses t g → R (gathers_on c d v t g)
   gathers_row t g y =
       on_cond R (has_all c g) _ _
       (λ all. accepts_row t g y all)
@@ -153,7 +153,7 @@ module _ (c : Layout) (d : ℕ) (s : CoordDurable) (v : CoordVolatile) (k : Node
         votes = no_votes (coord_says w (to_each c.shards (prepare_to c d t g))) tt;
       })
 
-  waiting_is : (t sh : ℕ) (g : Gather) → waiting_gather c s v t sh ≡ Some g → In (t, g) v.gathers
+  waiting_is : (t sh : ℕ) (g : GatherState) → waiting_gather c s v t sh ≡ Some g → In (t, g) v.gathers
   waiting_is t sh g =
       on_maybe (λ o. o ≡ Some g → In (t, g) v.gathers) (listed_outcome s.outcomes t) _ _
       (λ _. on_maybe (λ o. o ≡ Some g → In (t, g) v.gathers) (found nat_cmp v.gathers t) _ _
@@ -161,13 +161,13 @@ module _ (c : Layout) (d : ℕ) (s : CoordDurable) (v : CoordVolatile) (k : Node
       (λ x is. on_cond (λ o. o ≡ Some g → In (t, g) v.gathers) (touches c x.body sh && not (member nat_cmp x.yes sh)) _ _ (λ _ e. found_in t v.gathers g (is ∙ e)) (λ _ e. never g e)))
       (λ _ _ e. never g e)
 
-  refuses_row : (w : CoordVolatile) (t b : ℕ) (reason : Reason) → ((u : ℕ) (h : Gather) → In (u, h) w.gathers → Yeses u h) → R (refuses c d w t b reason)
+  refuses_row : (w : CoordVolatile) (t b : ℕ) (reason : Reason) → ((u : ℕ) (h : GatherState) → In (u, h) w.gathers → Yeses u h) → R (refuses c d w t b reason)
   refuses_row w t b reason y = record { says = to_one (SaysSo c d w) (proposer c t b) (Refused t b d reason) tt; yes = y; votes = no_votes (refuses c d w t b reason) tt }
 
-  olds : (u : ℕ) (h : Gather) → In (u, h) v.gathers → Yeses u h
+  olds : (u : ℕ) (h : GatherState) → In (u, h) v.gathers → Yeses u h
   olds u h i sh j = inl (record { gather = h; among = i; yes = j })
 
-  said_row : (t : ℕ) (g : Gather) → Yeses t g → R (said_yes c d s v t g)
+  said_row : (t : ℕ) (g : GatherState) → Yeses t g → R (said_yes c d s v t g)
   said_row t g y =
       on_cond R (has_all c g) _ _
       (λ all. on_cond R (nat_lt g.ballot (promise_of s.promises t)) _ _
@@ -257,4 +257,4 @@ module _ (c : Layout) (d : ℕ) (s : CoordDurable) (v : CoordVolatile) where
       comes (CatchPage e p es) = guarded (CatchPage e p es) (is_dc c e) _ (page_row c d s v _ e p es)
       comes _ = idle c d s v _
   coord_says_so (Takes t) = told_or_over c d s v _ t true
-  coord_says_so Catches = plain c d s v Catches (do_catch c d v) (to_many (SaysSo c d v) c.dcs _ (λ e. on_cond (EachTo (SaysSo c d v)) (e == d) _ _ (λ _. to_none (SaysSo c d v)) (λ _. to_one (SaysSo c d v) (coordinator e) (CatchAsk (place_of v e)) tt))) (same c d s v Catches) tt
+  coord_says_so Catches = plain c d s v Catches (do_catch c d v) (to_many (SaysSo c d v) c.dcs _ (λ e. on_cond (EachTo (SaysSo c d v)) (e == d) _ _ (λ _. to_none (SaysSo c d v)) (λ _. to_one (SaysSo c d v) (coordinator e) (CatchAsk (cursor_of v e)) tt))) (same c d s v Catches) tt

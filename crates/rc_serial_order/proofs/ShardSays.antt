@@ -12,7 +12,7 @@ use Rattle.rc_msg.specs.declared.msg.Msg.TheVariants.{ReadAsk, ReadCancel, Grant
 use Rattle.rc_record.specs.declared.record.Record.TheVariants.{Prepared as PartPrepared, Finished}
 use Rattle.rc_record.specs.ShardState.{ShardDurable, version_at, value_at, settled_all, shard_applied}
 use Rattle.rc_protocol.specs.Messages.{coordinator, client_of}
-use Rattle.rc_protocol.specs.Shard.{ShardVolatile, ShardAct, shard_stays, test, grant_of, is_free, grants, ignores_ask, on_read_ask, waits, on_prepare, on_finish, forgotten_all, unfinished, is_next_page, with_place, asks_next, then_says, takes_page, on_catch_page, shard_row}
+use Rattle.rc_protocol.specs.Shard.{ShardVolatile, ShardAct, shard_stays, test, grant_of, is_free, grants, ignores_ask, on_read_ask, waits, on_prepare, on_finish, forgotten_all, unfinished, is_next_shard_page, with_shard_cursor, asks_next_shard_page, then_says, takes_page, on_catch_page, shard_row}
 use Rattle.rc_protocol.specs.Nodes.{applied}
 use Rattle.rc_agreement.proofs.Cases.{on_cond, on_maybe, some_is, never}
 use Rattle.rc_agreement.proofs.Tables.{put_same}
@@ -50,7 +50,7 @@ module _ (c : Layout) (d sh : ℕ) (s : ShardDurable) where
   grants_sure : (z : ShardDurable) (v : ShardVolatile) → EachTo (Sure d sh z) (grants d z v)
   grants_sure z v = to_map (Sure d sh z) (grant_of d z.rows) (filter (is_free z.parts) v.waiting) (λ m. (refl, refl))
 
-  next_sure : (z : ShardDurable) (place : ℕ) (es : List (ℕ × Decision)) → EachTo (Sure d sh z) (asks_next d place es)
+  next_sure : (z : ShardDurable) (place : ℕ) (es : List (ℕ × Decision)) → EachTo (Sure d sh z) (asks_next_shard_page d place es)
   next_sure z place es = on_cond (EachTo (Sure d sh z)) (length es == 64) _ _ (λ _. to_one (Sure d sh z) (coordinator d) (CatchAsk (place + length es)) tt) (λ _. to_none (Sure d sh z))
 
   read_ask : (k0 : NodeCause) (v : ShardVolatile) (t : ℕ) (k : List ℕ) → ShardRow d sh s k0 (on_read_ask d s v t k)
@@ -89,19 +89,19 @@ module _ (c : Layout) (d sh : ℕ) (s : ShardDurable) where
 
   page : (k : NodeCause) (v : ShardVolatile) (place : ℕ) (es : List (ℕ × Decision)) → ShardRow d sh s k (on_catch_page c d sh s v place es)
   page k v place es =
-      on_cond (ShardRow d sh s k) (is_next_page v place es) _ _ (λ _. takes (unfinished c sh s es)) (λ _. idle k v)
+      on_cond (ShardRow d sh s k) (is_next_shard_page v place es) _ _ (λ _. takes (unfinished c sh s es)) (λ _. idle k v)
     where
-      takes : (new : List (ℕ × Decision)) → ShardRow d sh s k (then_says (takes_page d s (with_place v (place + length es)) new) (asks_next d place es))
+      takes : (new : List (ℕ × Decision)) → ShardRow d sh s k (then_says (takes_page d s (with_shard_cursor v (place + length es)) new) (asks_next_shard_page d place es))
       takes [] = record { says = to_both (Sure d sh s) [] _ (to_none (Sure d sh s)) (next_sure s place es); prepares = λ u p e. never _ e }
       takes (x ∷ xs) =
           let z : ShardDurable = settled_all s (x ∷ xs) in
           record {
-            says = to_both (Sure d sh z) _ _ (grants_sure z (forgotten_all (with_place v (place + length es)) (x ∷ xs))) (next_sure z place es);
+            says = to_both (Sure d sh z) _ _ (grants_sure z (forgotten_all (with_shard_cursor v (place + length es)) (x ∷ xs))) (next_sure z place es);
             prepares = λ u p e. let same : Finished (x ∷ xs) ≡ PartPrepared u p = some_is _ _ e in absurd (cc);
           }
 
   pub shard_says_so : (v : ShardVolatile) (k : NodeCause) → ShardRow d sh s k (shard_act c d sh s v k)
-  shard_says_so v Catches = record { says = to_one (Sure d sh s) (coordinator d) (CatchAsk v.place) tt; prepares = λ t p e. never _ e }
+  shard_says_so v Catches = record { says = to_one (Sure d sh s) (coordinator d) (CatchAsk v.cursor) tt; prepares = λ t p e. never _ e }
   shard_says_so v (Takes t) = idle (Takes t) v
   shard_says_so v (Came from m) = comes m
     where

@@ -8,9 +8,9 @@ use Rattle.rc_ids.specs.Cluster.{Layout, is_dc, is_quorum}
 use Rattle.rc_msg.specs.declared.msg.Msg.{Msg}
 use Rattle.rc_msg.specs.declared.msg.Msg.TheVariants.{Granted, Voted, Refused, Decided}
 use Rattle.rc_report.specs.declared.line.Line.{Line}
-use Rattle.rc_protocol.specs.Messages.{Sends}
+use Rattle.rc_protocol.specs.Messages.{Posts}
 use Rattle.rc_protocol.specs.Coordinator.{is_decided_by}
-use Rattle.rc_protocol.specs.Client.{Client, ClientAct, Slot, KeyRead, NotRead, UnderWay, Complete, Grant, is_over, is_committing, is_proposed, reads_on, client_stays, with_slots, with_read, with_write, is_worn, proposes, slot_of, slot_set, read_begun, reads_begun, is_unread, reads_again, do_read, do_write, is_under_way, waits_for_read, do_commit, read_dropped, do_cancel, grants_of, granted_by, best_grant, cancels, completed, read_line, goes_on, after_read, unless_refused, with_grant, prints_of, takes_grant, wants_grant, on_granted, counts_refusal, client_row}
+use Rattle.rc_protocol.specs.Client.{Client, ClientAct, Slot, KeyRead, NotRead, UnderWay, Complete, Grant, is_over, is_committing, is_proposed, reads_on, client_stays, with_slots, with_read, with_write, is_worn, proposes, slot_of, slot_set, read_begun, reads_begun, is_unread, reads_again, do_read, do_write, is_under_way, waits_for_read, do_commit, read_dropped, do_cancel, grants_of, granted_by, best_grant, cancels, completed, read_line, proposes_once_read, after_read, unless_refused, with_grant, prints_of, takes_grant, wants_grant, on_granted, counts_refusal, client_row}
 use Rattle.rc_agreement.proofs.Cases.{on_cond, on_maybe, some_is, never}
 use Rattle.rc_agreement.proofs.Tables.{in_either, in_map}
 use Rattle.rc_protocol.specs.Acts.{ClientCause, Hears, Reads, Writes, Commits, Cancels, Retries, Vanishes, client_by_row}
@@ -186,7 +186,7 @@ module _ (c : Layout) (G : List ℕ → Grant → Type 0) (W : List ℕ → ℕ 
         (λ n. slots_end (record { key = k; write = Some value; read = NotRead }) x.slots h n (unread_ok k))
         (λ s is. slots_set (with_write s value) x.slots h (h.each s (slot_in k x.slots s is).0))
 
-    proposes_row : (y : Client) (ms : Sends) (ls : List Line) → S y.slots → J (unless_refused x (after_read ms ls (proposes c t y)))
+    proposes_row : (y : Client) (ms : Posts) (ls : List Line) → S y.slots → J (unless_refused x (after_read ms ls (proposes c t y)))
     proposes_row y ms ls k = on_cond (λ a. J (unless_refused x (after_read ms ls a))) (is_worn y.slots) _ _ (λ _. h) (λ _. k)
 
     commit_row : J (do_commit c t x)
@@ -195,7 +195,7 @@ module _ (c : Layout) (G : List ℕ → Grant → Type 0) (W : List ℕ → ℕ 
     cancel_row : (k : List ℕ) → J (do_cancel c t x k)
     cancel_row k = on_maybe J (slot_of x.slots k) _ _ (λ _. h) (λ s _. on_cond J (is_under_way s.read) _ _ (λ _. slots_dropped k x.slots h) (λ _. h))
 
-    goes_row : (y : Client) (ms : Sends) (ls : List Line) → S y.slots → J (unless_refused x (after_read ms ls (goes_on c t y)))
+    goes_row : (y : Client) (ms : Posts) (ls : List Line) → S y.slots → J (unless_refused x (after_read ms ls (proposes_once_read c t y)))
     goes_row y ms ls k = on_cond (λ z. J (unless_refused x (after_read ms ls z))) (is_committing y.phase && not (waits_for_read y.slots)) (proposes c t y) (client_stays y) (λ _. proposes_row y ms ls k) (λ _. k)
 
     granted_row : (k : List ℕ) (g : Grant) → G k g → J (on_granted c t x k g)

@@ -16,9 +16,9 @@ use Rattle.rc_msg.specs.declared.msg.Envelope.{Envelope}
 use Rattle.rc_record.specs.declared.record.Record.{Record}
 use Rattle.rc_record.specs.declared.record.Record.TheVariants.{Prepared as PartPrepared, Accepted}
 use Rattle.rc_record.specs.ShardState.{shard_applied}
-use Rattle.rc_protocol.specs.Messages.{Sends, coordinator, shard_server, client_of}
+use Rattle.rc_protocol.specs.Messages.{Posts, coordinator, shard_server, client_of}
 use Rattle.rc_protocol.specs.Shard.{ShardVolatile}
-use Rattle.rc_protocol.specs.Coordinator.{CoordAct, Gather}
+use Rattle.rc_protocol.specs.Coordinator.{CoordAct, GatherState}
 use Rattle.rc_protocol.specs.Client.{Client, Slot, body_of}
 use Rattle.rc_protocol.specs.Nodes.{CoordNode, ShardNode, applied, logged}
 use Rattle.rc_runs.specs.World.{envelopes, with_shard}
@@ -42,7 +42,7 @@ SoundIn s xs = Sound (Granting (Written s)) (Written s) xs
 
 pub record Store (s : Scene) : Type 0 where
   pub says : (e : Envelope) → In e s.sent → Means s e.from e.to e.msg
-  pub yes : (d t : ℕ) (g : Gather) → In (t, g) (at s d).volatile.gathers → (sh : ℕ) → In sh g.yes → WasPrepared s d sh t
+  pub yes : (d t : ℕ) (g : GatherState) → In (t, g) (at s d).volatile.gathers → (sh : ℕ) → In sh g.yes → WasPrepared s d sh t
   pub votes : (t d b : ℕ) (x : List Entry) → Vote t s d b (Commit x) → (sh : ℕ) → In sh (touched s.parties.layout x) → WasPrepared s d sh t
   pub shards : (d sh : ℕ) → Firm s sh (shard_in s d sh).log (shard_in s d sh).durable
   pub clients : (t : ℕ) (x : Client) → found nat_cmp s.parties.clients t ≡ Some x → SoundIn s x.slots
@@ -62,7 +62,7 @@ in_logged None log x h = h
 in_logged (Some r) log x h = in_left x log (r ∷ []) h
 
 -- SHARD SERVERS
-module _ (c : Layout) (s : Scene) (inv : (u : ℕ) → Agreeing c u s) (q : QuorumLaws s.parties.layout) (h : Store s) (d sh : ℕ) (there : ThereIs s d sh) (up : Bool) (r : Option Record) (v : ShardVolatile) (ms : Sends)
+module _ (c : Layout) (s : Scene) (inv : (u : ℕ) → Agreeing c u s) (q : QuorumLaws s.parties.layout) (h : Store s) (d sh : ℕ) (there : ThereIs s d sh) (up : Bool) (r : Option Record) (v : ShardVolatile) (ms : Posts)
     (part_note : PartNote s sh (shard_in s d sh).durable r) (notes : ShardNotes s sh r)
     (sure : EachTo (Sure d sh (applied shard_applied (shard_in s d sh).durable r)) ms)
     (modest : (t : ℕ) (o : Decision) → Says ms (Propose t 0 o) → ⊥) where
@@ -117,7 +117,7 @@ module _ (c : Layout) (s : Scene) (inv : (u : ℕ) → Agreeing c u s) (q : Quor
 -- COORDINATORS
 pub record Square (s : Scene) (d : ℕ) (a : CoordAct) : Type 0 where
   pub says : (to : Party) (m : Msg) → In (to, m) a.sends → Means s (coordinator d) to m
-  pub yes : (t : ℕ) (g : Gather) → In (t, g) a.after.gathers → (sh : ℕ) → In sh g.yes → WasPrepared s d sh t
+  pub yes : (t : ℕ) (g : GatherState) → In (t, g) a.after.gathers → (sh : ℕ) → In sh g.yes → WasPrepared s d sh t
   pub votes : (t b : ℕ) (x : List Entry) → a.logs ≡ Some (Accepted t b (Commit x)) → (sh : ℕ) → In sh (touched s.parties.layout x) → WasPrepared s d sh t
   pub fresh : (t : ℕ) (o : Decision) → Says a.sends (Propose t 0 o) → ⊥
 
@@ -131,7 +131,7 @@ coord_store s d there up a h q =
           (λ old. means_on s z g e.from e.to e.msg (h.says e old))
           (λ (new : In (e.to, e.msg) a.sends × (e.from ≡ coordinator d)). means_on s z g e.from e.to e.msg (subst (λ p. Means s p e.to e.msg) (sym new.1) (q.says e.to e.msg new.0)))
           (in_sent s.sent (coordinator d) a.sends e i);
-      yes = put_each (λ e (n : CoordNode). (u : ℕ) (k : Gather) → In (u, k) n.volatile.gathers → (sh : ℕ) → In sh k.yes → WasPrepared z e sh u) s.parties d (at s d) (node_after s d up a) a.logs there
+      yes = put_each (λ e (n : CoordNode). (u : ℕ) (k : GatherState) → In (u, k) n.volatile.gathers → (sh : ℕ) → In sh k.yes → WasPrepared z e sh u) s.parties d (at s d) (node_after s d up a) a.logs there
           (λ e _ u k is sh i. prepared_on s z g e sh u (h.yes e u k is sh i)) (λ u k is sh i. prepared_on s z g d sh u (q.yes u k is sh i));
       votes = λ u e b x. put_each (λ e (n : CoordNode). In (Accepted u b (Commit x)) n.log → (sh : ℕ) → In sh (touched s.parties.layout x) → WasPrepared z e sh u) s.parties d (at s d) (node_after s d up a) a.logs there
           (λ e _ i sh j. prepared_on s z g e sh u (h.votes u e b x i sh j))
@@ -148,7 +148,7 @@ coord_store s d there up a h q =
     g = coord_grows s d there up a
 
 -- CLIENTS
-pub client_store : (s : Scene) → Store s → (cs : Table ℕ Client) (u : ℕ) (ms : Sends) → ((to : Party) (m : Msg) → In (to, m) ms → Means s (client_of u) to m)
+pub client_store : (s : Scene) → Store s → (cs : Table ℕ Client) (u : ℕ) (ms : Posts) → ((to : Party) (m : Msg) → In (to, m) ms → Means s (client_of u) to m)
     → ((t : ℕ) (x : Client) → found nat_cmp cs t ≡ Some x → SoundIn s x.slots)
     → ((t : ℕ) (o : Decision) → Said (s.sent ++ envelopes (client_of u) ms) (Propose t 0 o) → (x : Client) × (found nat_cmp cs t ≡ Some x) × Late x.phase × (o ≡ Commit (body_of x.slots)))
     → Store (record { parties = record s.parties { clients = cs }; sent = s.sent ++ envelopes (client_of u) ms })

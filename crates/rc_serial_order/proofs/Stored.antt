@@ -18,7 +18,7 @@ use Rattle.rc_record.specs.CoordState.{CoordDurable, coord_applied}
 use Rattle.rc_record.specs.ShardState.{ShardDurable, shard_applied}
 use Rattle.rc_protocol.specs.Messages.{coordinator, shard_server, client_of}
 use Rattle.rc_protocol.specs.Shard.{new_volatile as new_shard_volatile}
-use Rattle.rc_protocol.specs.Coordinator.{CoordAct, Gather, new_volatile as new_coord_volatile}
+use Rattle.rc_protocol.specs.Coordinator.{CoordAct, GatherState, new_volatile as new_coord_volatile}
 use Rattle.rc_protocol.specs.Client.{Client, ClientAct, new_client, body_of}
 use Rattle.rc_protocol.specs.Nodes.{CoordNode, ShardNode, applied, logged}
 use Rattle.rc_runs.specs.World.{envelopes, replaced, with_coord, with_shard, with_new_client, new_world}
@@ -105,7 +105,7 @@ module _ (c : Layout) (lay : IsLayout c) (s : Scene) (p : Stored c s) (d : ℕ) 
   says to (ReadAsk t x) h = absurd h
   says to _ h = tt
 
-  yes : (t : ℕ) (g : Gather) → In (t, g) a.after.gathers → (sh : ℕ) → In sh g.yes → WasPrepared s d sh t
+  yes : (t : ℕ) (g : GatherState) → In (t, g) a.after.gathers → (sh : ℕ) → In sh g.yes → WasPrepared s d sh t
   yes t g is sh i = ⊎_elim
       (λ (x : YesBefore (at s d).volatile t sh). p.1.yes d t x.gather x.among sh x.yes)
       (λ (x : (from : Party) × (k ≡ Came from (Prepared t sh None))).

@@ -4,7 +4,7 @@ use Rattle.rc_ids.specs.Tables.{maybe}
 use Rattle.rc_ids.specs.Cluster.{layout, holds}
 use Rattle.rc_body.specs.declared.decision.Decision.{Decision}
 use Rattle.rc_body.specs.declared.decision.Decision.TheVariants.{Abort}
-use Rattle.rc_protocol.specs.Coordinator.{TakeOver, best_or_abort, chooses}
+use Rattle.rc_protocol.specs.Coordinator.{TakeoverState, best_or_abort, chooses}
 use Rattle.rc_takeover.specs.declared.choice.Choice.{Choice}
 use Rattle.rc_takeover.specs.declared.choice.Choice.TheVariants.{Nothing, Best}
 use Rattle.rc_takeover.specs.Choices.{choice, proposal, has_all_dcs}
@@ -28,7 +28,7 @@ chosen-tested false q false true best = refl
 chosen-tested false q false false best = refl
 
 -- the decision of the choice
-chooses-choice : (dcs : ℕ) (weights : List ℕ) (k : TakeOver)
+chooses-choice : (dcs : ℕ) (weights : List ℕ) (k : TakeoverState)
     → chooses (layout dcs 1 [] weights) k ≡ maybe (choice dcs weights k.is_eager k.heard k.silent) None (λ c. Some (proposal c k.best))
 unfolding chosen tested
 chooses-choice dcs weights k =
@@ -42,7 +42,7 @@ told (Some Nothing) best = refl
 told (Some Best) None = refl
 told (Some Best) (Some report) = refl
 
-pub said-chooses : (dcs : ℕ) (weights : List ℕ) (k : TakeOver)
+pub said-chooses : (dcs : ℕ) (weights : List ℕ) (k : TakeoverState)
     → said (chooses (layout dcs 1 [] weights) k) ≡ foretells (foretold_state dcs weights k)
 said-chooses dcs weights k =
     ap said (chooses-choice dcs weights k) ∙ told (choice dcs weights k.is_eager k.heard k.silent) k.best

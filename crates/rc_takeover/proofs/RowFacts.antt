@@ -3,17 +3,17 @@ use Rattle.std.proofs.Common.{◌≡◌, ℕ, Bool, true, false, cond, [], Optio
 use Rattle.rc_ids.specs.Tables.{maybe}
 use Rattle.rc_ids.specs.Cluster.{Layout, layout}
 use Rattle.rc_body.specs.declared.decision.Decision.{Decision}
-use Rattle.rc_protocol.specs.Coordinator.{TakeOver, hears, chooses, proposed}
+use Rattle.rc_protocol.specs.Coordinator.{TakeoverState, hears, chooses, proposed}
 use Rattle.rc_takeover.specs.TakeOvers.{KeptTakeOver, kept, with_state, cluster_of, gone_on, waits_for, said, heard_by, foretold, foretold_state, foretells, ignored, IsTakeOver}
 use Rattle.rc_takeover.specs.declared.answers.Heard.TheVariants.{Ignored}
 use Rattle.rc_takeover.proofs.ChoiceFacts.{said-chooses}
 
-says : (c : Layout) (k : TakeOver) (from : ℕ) (report : Option (ℕ × Decision)) (waits : Bool)
+says : (c : Layout) (k : TakeoverState) (from : ℕ) (report : Option (ℕ × Decision)) (waits : Bool)
     → cond waits (said (chooses (cluster_of (kept c k)) (hears k from report))) Ignored ≡ cond waits (said (chooses c (hears k from report))) Ignored
 says c k from report true = refl
 says c k from report false = refl
 
-stands : (c : Layout) (k : TakeOver) (from : ℕ) (report : Option (ℕ × Decision)) (waits : Bool)
+stands : (c : Layout) (k : TakeoverState) (from : ℕ) (report : Option (ℕ × Decision)) (waits : Bool)
     → cond waits (with_state (kept c k) (gone_on (cluster_of (kept c k)) (hears k from report))) (kept c k)
     ≡ kept c (cond waits (maybe (chooses c (hears k from report)) (hears k from report) (λ _. proposed (hears k from report))) k)
 stands c k from report true = refl

@@ -5,7 +5,7 @@ use Rattle.rc_ids.specs.Tables.{member, maybe}
 use Rattle.rc_ids.specs.Cluster.{Layout, layout}
 use Rattle.rc_body.specs.declared.decision.Decision.{Decision}
 use Rattle.rc_body.specs.declared.decision.Decision.TheVariants.{Abort as AbortOf}
-use Rattle.rc_protocol.specs.Coordinator.{TakeOver, hears, chooses, proposed}
+use Rattle.rc_protocol.specs.Coordinator.{TakeoverState, hears, chooses, proposed}
 use Rattle.rc_takeover.specs.declared.choice.Choice.{Choice}
 use Rattle.rc_takeover.specs.declared.choice.Choice.TheVariants.{Nothing, Best}
 use Rattle.rc_takeover.specs.declared.answers.Heard.{Heard}
@@ -18,14 +18,14 @@ use Rattle.rc_takeover.specs.Choices.{choice}
 pub record KeptTakeOver : Type 0 where
   pub dcs : ℕ
   pub weights : List ℕ
-  pub state : TakeOver
+  pub state : TakeoverState
 
 -- a take-over of the rows, as it is kept
-abbrev pub kept : Layout → TakeOver → KeptTakeOver
+abbrev pub kept : Layout → TakeoverState → KeptTakeOver
 kept c k = record { dcs = c.dcs; weights = c.weights; state = k }
 
 -- the same with another state
-abbrev pub with_state : KeptTakeOver → TakeOver → KeptTakeOver
+abbrev pub with_state : KeptTakeOver → TakeoverState → KeptTakeOver
 with_state k state = record { dcs = k.dcs; weights = k.weights; state = state }
 
 -- a cluster with these datacentres, of which a choice asks no more
@@ -33,11 +33,11 @@ abbrev pub cluster_of : KeptTakeOver → Layout
 cluster_of k = layout k.dcs 1 [] k.weights
 
 -- it has not proposed yet, and did not hear the datacentre
-abbrev pub waits_for : TakeOver → ℕ → Bool
+abbrev pub waits_for : TakeoverState → ℕ → Bool
 waits_for k from = not k.has_proposed && not (member nat_cmp k.heard from)
 
 -- it proposes, if it is time to
-abbrev pub gone_on : Layout → TakeOver → TakeOver
+abbrev pub gone_on : Layout → TakeoverState → TakeoverState
 gone_on c k = maybe (chooses c k) k (λ _. proposed k)
 
 abbrev pub said : Option Decision → Heard
@@ -74,21 +74,21 @@ abbrev pub foretold_choice : Choice → Option (ℕ × Decision) → Foretold
 foretold_choice Nothing best = abort
 foretold_choice Best best = foretold_best best
 
-abbrev pub foretold_state : ℕ → List ℕ → TakeOver → Foretold
+abbrev pub foretold_state : ℕ → List ℕ → TakeoverState → Foretold
 foretold_state dcs weights k = maybe (choice dcs weights k.is_eager k.heard k.silent) waiting (λ c. foretold_choice c k.best)
 
 abbrev pub foretold : KeptTakeOver → ℕ → Option (ℕ × Decision) → Foretold
 foretold k from report = if waits_for k.state from then foretold_state k.dcs k.weights (hears k.state from report) else ignored
 
 -- an answer by reference
-abbrev pub seen : Would → Foretold
-seen WouldIgnore = ignored
-seen WouldWait = waiting
-seen WouldAbort = abort
-seen (WouldReport d) = reported d.now
+abbrev pub foretold_by : Would → Foretold
+foretold_by WouldIgnore = ignored
+foretold_by WouldWait = waiting
+foretold_by WouldAbort = abort
+foretold_by (WouldReport d) = reported d.now
 
 -- what a row makes of the take-over, when a promise comes
-abbrev pub promised : Layout → TakeOver → ℕ → Option (ℕ × Decision) → TakeOver
+abbrev pub promised : Layout → TakeoverState → ℕ → Option (ℕ × Decision) → TakeoverState
 promised c k from report =
     if waits_for k from
     then maybe (chooses c (hears k from report)) (hears k from report) (λ _. proposed (hears k from report))
@@ -97,7 +97,7 @@ promised c k from report =
 -- a take-over as it is kept is the take-over of the rows
 pub record IsTakeOver (c : Layout) : Type 0 where
   -- it says what the rows propose, and keeps what they make of it
-  pub says : (k : TakeOver) (from : ℕ) (report : Option (ℕ × Decision))
+  pub says : (k : TakeoverState) (from : ℕ) (report : Option (ℕ × Decision))
       → heard_by (kept c k) from report ≡ (if waits_for k from then said (chooses c (hears k from report)) else Ignored)
-  pub stands : (k : TakeOver) (from : ℕ) (report : Option (ℕ × Decision))
+  pub stands : (k : TakeoverState) (from : ℕ) (report : Option (ℕ × Decision))
       → after_promise (kept c k) from report ≡ kept c (promised c k from report)

@@ -4,7 +4,7 @@ ghost use Rattle.std.specs.Option.{option_copied};
 ghost use Rattle.std.specs.Ordering.{nat_cmp};
 ghost use Rattle.rc_ids.specs.Tables.{added};
 ghost use Rattle.rc_protocol.specs.Coordinator.{better as better_lem};
-ghost use Rattle.rc_takeover.specs.TakeOvers.{seen, foretold_best};
+ghost use Rattle.rc_takeover.specs.TakeOvers.{foretold_by, foretold_best};
 
 use crate::Would;
 use rc_body::Decision;
@@ -38,7 +38,7 @@ pub fn would_report<'a>(
     best: &'a Option<(Ballot, Decision)>,
     report: Option<&'a (Ballot, Decision)>,
 ) -> Would<'a>
-    ensures { seen result ≡ foretold_best (better_lem best.now (option_copied report.entry)) }
+    ensures { foretold_by result ≡ foretold_best (better_lem best.now (option_copied report.entry)) }
 {
     match (best, report) {
         (None, None) => Would::Abort,

@@ -6,7 +6,7 @@ ghost use Rattle.rc_ids.specs.Cluster.{Layout, is_dc, next_ballot};
 ghost use Rattle.rc_body.specs.declared.decision.Decision.{Decision as DecisionOf};
 ghost use Rattle.rc_protocol.specs.Coordinator.{opening, hears, chooses, proposed};
 ghost use Rattle.rc_takeover.specs.Choices.{choice as choice_lem, proposal as proposal_lem};
-ghost use Rattle.rc_takeover.specs.TakeOvers.{kept, with_state, cluster_of, waits_for as waits_for_lem, gone_on, said, heard_by, after_promise, seen, foretold, foretells, IsTakeOver, KeptTakeOver};
+ghost use Rattle.rc_takeover.specs.TakeOvers.{kept, with_state, cluster_of, waits_for as waits_for_lem, gone_on, said, heard_by, after_promise, foretold_by, foretold, foretells, IsTakeOver, KeptTakeOver};
 
 use crate::choice::{Choice, chosen, proposal};
 use crate::reports::{better, silent_after, would_report};
@@ -148,7 +148,7 @@ impl Takeover {
 
     /// What `hear` would say, told beforehand.
     pub fn would<'a>(&'a self, dc: DcId, report: Option<&'a (Ballot, Decision)>) -> Would<'a>
-        ensures { seen result ≡ foretold self.now dc (option_copied report.entry) }
+        ensures { foretold_by result ≡ foretold self.now dc (option_copied report.entry) }
     {
         if !self.waits_for(dc) {
             return Would::Ignored;

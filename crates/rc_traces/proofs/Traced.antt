@@ -15,8 +15,8 @@ use Rattle.rc_runs.specs.declared.event.Event.{Event}
 use Rattle.rc_runs.specs.declared.event.Event.TheVariants.{Begin, Read, Write, Commit, Cancel, Retry, Vanish, Take, Catch, Deliver, Lose, Crash, CrashAt, Restart}
 use Rattle.rc_runs.specs.World.{World, course_deed, step, printed, order}
 use Rattle.rc_runs.specs.Refusals.{Happening, wrong, limit, begins, most_transactions, most_events, worn_out, too_much_sent, is_event, after_event, run, lines_at, lines}
-use Rattle.rc_runs.specs.Session.{Session, Halt, Misnamed, Limited, FarmFails, DiskWork, disk_work, after_work, with_world, with_text, text_bytes, most_text_bytes, prints, does, may_do, happens, Went}
-use Rattle.rc_runs.specs.Script.{LineDone, line_done, then_line, then_trace, goes_on, by_event, by_lines, idle, oldest, steps, settles, each, pending_lines, shown_lines, performs}
+use Rattle.rc_runs.specs.Session.{Session, Halt, Misnamed, Limited, FarmFails, DiskChange, disk_change, with_change, with_world, with_text, text_bytes, most_text_bytes, prints, happens_with, happens_within_limits, happens, Happened}
+use Rattle.rc_runs.specs.Script.{LineDone, line_done, then_line, then_trace, unless_halted, by_event, by_lines, idle, oldest, steps, settles, each, pending_lines, shown_lines, performs}
 use Rattle.rc_traces.specs.Own.{own_lines, unless_halted}
 
 on_cond : {A : Type 0} (P : A → Type 0) (b : Bool) (x y : A) → (b ≡ true → P x) → (b ≡ false → P y) → P (cond b x y)
@@ -59,35 +59,35 @@ happens_so w h name room =
     both (is_none (wrong w h.0)) (is_none (worn_out (course_deed w h.0 h.1))) (ap is_none name)
     (not_worn (begins h.0 && nat_le most_transactions (length w.parties.clients)) (nat_le most_events w.events) (worn_out (course_deed w h.0 h.1)) (too_much_sent w h.0 (course_deed w h.0 h.1)) room)
 
-abbrev EventTraced : Session → Event → Went → Type 0
-EventTraced z e done = Traced z (line_done z ((e, (disk_work z e).course) ∷ []) done) []
+abbrev EventTraced : Session → Event → Happened → Type 0
+EventTraced z e done = Traced z (line_done z ((e, (disk_change z e).course) ∷ []) done) []
 
 event_traced : (z : Session) (e : Event) → Traced z (by_event z e) []
 event_traced z e =
     on_maybe (EventTraced z e) (wrong z.world e) _ _
-    (λ name. on_maybe (EventTraced z e) (limit z.world e (disk_work z e).course) _ _
-    (λ room. on_maybe (EventTraced z e) (after_work z (disk_work z e)) _ _ (λ _. refused FarmFails)
-    (λ y _. on_cond (EventTraced z e) (nat_lt most_text_bytes (y.text + text_bytes (printed z.world e (disk_work z e).course))) _ _ (λ _. refused (Limited TextBytes))
-    (λ _. went y (happens_so z.world (e, (disk_work z e).course) name room))))
+    (λ name. on_maybe (EventTraced z e) (limit z.world e (disk_change z e).course) _ _
+    (λ room. on_maybe (EventTraced z e) (with_change z (disk_change z e)) _ _ (λ _. refused FarmFails)
+    (λ y _. on_cond (EventTraced z e) (nat_lt most_text_bytes (y.text + text_bytes (printed z.world e (disk_change z e).course))) _ _ (λ _. refused (Limited TextBytes))
+    (λ _. went y (happens_so z.world (e, (disk_change z e).course) name room))))
     (λ which _. refused (Limited which)))
     (λ name _. refused (Misnamed name))
   where
     refused : (halt : Halt) → EventTraced z e (Err halt)
     refused halt = record { world = refl; prints = refl }
 
-    went : (y : Session) → is_event z.world (e, (disk_work z e).course) ≡ true
-        → EventTraced z e (Ok (with_text (with_world y (step z.world e (disk_work z e).course)) (y.text + text_bytes (printed z.world e (disk_work z e).course)), printed z.world e (disk_work z e).course))
+    went : (y : Session) → is_event z.world (e, (disk_change z e).course) ≡ true
+        → EventTraced z e (Ok (with_text (with_world y (step z.world e (disk_change z e).course)) (y.text + text_bytes (printed z.world e (disk_change z e).course)), printed z.world e (disk_change z e).course))
     went y ok = record {
-      world = sym (ap (λ (b : Bool). cond b (step z.world e (disk_work z e).course) z.world) ok);
+      world = sym (ap (λ (b : Bool). cond b (step z.world e (disk_change z e).course) z.world) ok);
       prints =
-          sym (ap (λ (b : Bool). (cond b (printed z.world e (disk_work z e).course) [] ++ []) ++ []) ok
-          ∙ append-nil (printed z.world e (disk_work z e).course ++ []) ∙ append-nil (printed z.world e (disk_work z e).course));
+          sym (ap (λ (b : Bool). (cond b (printed z.world e (disk_change z e).course) [] ++ []) ++ []) ok
+          ∙ append-nil (printed z.world e (disk_change z e).course ++ []) ∙ append-nil (printed z.world e (disk_change z e).course));
     }
 
 event_counts : (z : Session) (e : Event) → (by_event z e).halt ≡ None → length (by_event z e).trace ≡ 1
 event_counts z e = go (happens z e)
   where
-    go : (done : Went) → (line_done z ((e, (disk_work z e).course) ∷ []) done).halt ≡ None → length (line_done z ((e, (disk_work z e).course) ∷ []) done).trace ≡ 1
+    go : (done : Happened) → (line_done z ((e, (disk_change z e).course) ∷ []) done).halt ≡ None → length (line_done z ((e, (disk_change z e).course) ∷ []) done).trace ≡ 1
     go (Ok x) h = refl
     go (Err halt) h = cc
 
@@ -97,7 +97,7 @@ idle_traced z = record { world = refl; prints = refl }
 
 own_traced : (z : Session) (ls : List Line) → Traced z (by_lines z ls) (unless_halted (by_lines z ls) ls)
 own_traced z ls =
-    on_cond (λ (done : Went). Traced z (line_done z [] done) (unless_halted (line_done z [] done) ls)) (nat_lt most_text_bytes (z.text + text_bytes ls)) _ _
+    on_cond (λ (done : Happened). Traced z (line_done z [] done) (unless_halted (line_done z [] done) ls)) (nat_lt most_text_bytes (z.text + text_bytes ls)) _ _
     (λ _. record { world = refl; prints = refl }) (λ _. record { world = refl; prints = refl })
 
 -- ONE AFTER ANOTHER
@@ -110,7 +110,7 @@ then_traced z done next own t n = record {
       ∙ sym (ap (λ (ls : List Line). ls ++ own) (lines-append z.world done.trace next.trace) ∙ append_assoc (lines z.world done.trace) (lines (run z.world done.trace) next.trace) own);
 }
 
-next_traced : (z : Session) (done : LineDone) (next : Session → LineDone) → Traced z done [] → Traced done.after (next done.after) [] → Traced z (goes_on done next) []
+next_traced : (z : Session) (done : LineDone) (next : Session → LineDone) → Traced z done [] → Traced done.after (next done.after) [] → Traced z (unless_halted done next) []
 next_traced z done next t n = on_maybe (λ d. Traced z d []) done.halt _ _ (λ _. then_traced z done (next done.after) [] t n) (λ h _. t)
 
 steps_traced : (more : ℕ) (z : Session) → Traced z (steps more z) []
@@ -130,7 +130,7 @@ counted count done = unless_halted done (Settled (count + length done.trace) ∷
 
 ends_traced : (count : ℕ) (z : Session) → Traced z (by_lines z (Settled count ∷ [])) (counted count (by_lines z (Settled count ∷ [])))
 ends_traced count z =
-    on_cond (λ (done : Went). Traced z (line_done z [] done) (counted count (line_done z [] done))) (nat_lt most_text_bytes (z.text + text_bytes (Settled count ∷ []))) _ _
+    on_cond (λ (done : Happened). Traced z (line_done z [] done) (counted count (line_done z [] done))) (nat_lt most_text_bytes (z.text + text_bytes (Settled count ∷ []))) _ _
     (λ _. record { world = refl; prints = refl }) (λ _. record { world = refl; prints = ap (λ (n : ℕ). Settled n ∷ []) (sym (add-zero count)) })
 
 one_more : (count : ℕ) (trace next : List Happening) → length trace ≡ 1 → count + length (trace ++ next) ≡ (count + 1) + length next
@@ -138,7 +138,7 @@ one_more count trace next one = omega (arith, length-append trace next)
 
 -- one delivery, and the rest of the settle
 settles_on : (count : ℕ) (z : Session) (done : LineDone) (next : Session → LineDone) → Traced z done [] → (done.halt ≡ None → length done.trace ≡ 1)
-    → Traced done.after (next done.after) (counted (count + 1) (next done.after)) → Traced z (goes_on done next) (counted count (goes_on done next))
+    → Traced done.after (next done.after) (counted (count + 1) (next done.after)) → Traced z (unless_halted done next) (counted count (unless_halted done next))
 settles_on count z done next t one rest =
     on_maybe (λ d. Traced z d (counted count d)) done.halt _ _
     (λ none. subst (λ (n : ℕ). Traced z (then_trace done.trace (then_line done.lines (next done.after))) (unless_halted (next done.after) (Settled n ∷ [])))

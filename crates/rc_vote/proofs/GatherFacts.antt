@@ -4,7 +4,7 @@ use Rattle.std.specs.Ordering.{nat_cmp}
 use Rattle.rc_ids.specs.Tables.{member}
 use Rattle.rc_ids.specs.Cluster.{Layout, is_shard}
 use Rattle.rc_body.specs.Bodies.{touches, touched}
-use Rattle.rc_protocol.specs.Coordinator.{Gather}
+use Rattle.rc_protocol.specs.Coordinator.{GatherState}
 use Rattle.rc_vote.specs.Gathers.{IsGather, by_shards, shard_gather, waits_for}
 use Rattle.rc_vote.proofs.ShardFacts.{member-passing, member-filter}
 
@@ -14,7 +14,7 @@ at_first b = grind arith
 within : (c : Layout) (s : ℕ) → IsTrue (is_shard c s) → (1 ≤ s) × (s ≤ c.shards)
 within c s is = (grind arith, grind arith)
 
-waited : (c : Layout) (g : Gather) (s : ℕ) → IsTrue (is_shard c s)
+waited : (c : Layout) (g : GatherState) (s : ℕ) → IsTrue (is_shard c s)
     → (touches c g.body s && not (member nat_cmp g.yes s)) ≡ waits_for (by_shards c g) s
 waited c g s is =
     let bounds = within c s is in

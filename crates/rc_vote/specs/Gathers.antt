@@ -6,7 +6,7 @@ use Rattle.rc_ids.specs.Tables.{member, added, found}
 use Rattle.rc_ids.specs.Cluster.{Layout, is_shard}
 use Rattle.rc_body.specs.Bodies.{touches, touched}
 use Rattle.rc_body.specs.declared.entry.Entry.{Entry}
-use Rattle.rc_protocol.specs.Coordinator.{Gather, CoordVolatile, gather_at, has_all, with_yes}
+use Rattle.rc_protocol.specs.Coordinator.{GatherState, CoordVolatile, gather_at, has_all, with_yes}
 use Rattle.rc_vote.specs.declared.gather.Gathered.{Gathered}
 use Rattle.rc_vote.specs.declared.gather.Gathered.TheVariants.{Ignored, Waiting, Complete, Refused}
 
@@ -20,7 +20,7 @@ abbrev pub shard_gather : List ℕ → ℕ → List ℕ → ShardGather
 shard_gather shards b said = record { touched = shards; ballot = b; yes = said }
 
 -- the same gather by its shards
-abbrev pub by_shards : Layout → Gather → ShardGather
+abbrev pub by_shards : Layout → GatherState → ShardGather
 by_shards c g = shard_gather (touched c g.body) g.ballot g.yes
 
 -- its ballot becomes the larger one
@@ -58,13 +58,13 @@ pub record IsGather (c : Layout) : Type 0 where
   -- a new one is at its first ballot, and one that is there at the larger ballot
   pub made : (v : CoordVolatile) (t b : ℕ) (body : List Entry) → found nat_cmp v.gathers t ≡ None
       → by_shards c (gather_at v t b body) ≡ raised (shard_gather (touched c body) 0 []) b
-  pub again : (v : CoordVolatile) (t b : ℕ) (body : List Entry) (g : Gather) → found nat_cmp v.gathers t ≡ Some g
+  pub again : (v : CoordVolatile) (t b : ℕ) (body : List Entry) (g : GatherState) → found nat_cmp v.gathers t ≡ Some g
       → by_shards c (gather_at v t b body) ≡ raised (by_shards c g) b
   -- it has all where it is complete, and its shards say yes alike
-  pub all : (g : Gather) → has_all c g ≡ is_complete (by_shards c g)
-  pub yes : (g : Gather) (s : ℕ) → by_shards c (with_yes g s) ≡ with_shard (by_shards c g) s
+  pub all : (g : GatherState) → has_all c g ≡ is_complete (by_shards c g)
+  pub yes : (g : GatherState) (s : ℕ) → by_shards c (with_yes g s) ≡ with_shard (by_shards c g) s
   -- of the shards of the cluster the same are waited for, and asked
-  pub waits : (g : Gather) (s : ℕ) → IsTrue (is_shard c s)
+  pub waits : (g : GatherState) (s : ℕ) → IsTrue (is_shard c s)
       → (touches c g.body s && not (member nat_cmp g.yes s)) ≡ waits_for (by_shards c g) s
-  pub asks : (g : Gather) (s : ℕ) → IsTrue (is_shard c s)
+  pub asks : (g : GatherState) (s : ℕ) → IsTrue (is_shard c s)
       → (touches c g.body s && not (member nat_cmp g.yes s)) ≡ member nat_cmp (still_asked (by_shards c g)) s

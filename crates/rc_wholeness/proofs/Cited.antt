@@ -18,7 +18,7 @@ use Rattle.rc_record.specs.declared.record.Record.{Record}
 use Rattle.rc_record.specs.declared.record.Record.TheVariants.{Head, Prepared as PartPrepared, Finished, Promised, Accepted, Decided}
 use Rattle.rc_record.specs.CoordState.{CoordDurable, coord_applied, outcomes_joined}
 use Rattle.rc_record.specs.ShardState.{ShardDurable, shard_applied}
-use Rattle.rc_protocol.specs.Messages.{Sends, coordinator, shard_server, client_of, most_entries}
+use Rattle.rc_protocol.specs.Messages.{Posts, coordinator, shard_server, client_of, most_entries}
 use Rattle.rc_protocol.specs.Shard.{ShardVolatile, cut_to_part, new_volatile as new_shard_volatile}
 use Rattle.rc_protocol.specs.Coordinator.{CoordAct, new_volatile as new_coord_volatile}
 use Rattle.rc_protocol.specs.Client.{Client, new_client}
@@ -53,7 +53,7 @@ EndsIn list x = (t : ℕ) (outcome : Outcome) → found nat_cmp x.finished t ≡
 pub record Cited (s : Scene) : Type 0 where
   pub says : (e : Envelope) → In e s.sent → Cites s e.from e.to e.msg
   pub ends : (d sh : ℕ) → EndsIn (at s d).durable.outcomes (shard_in s d sh).durable
-  pub places : (d sh : ℕ) → Passed s.parties.layout sh (shard_in s d sh).durable.finished (shard_in s d sh).volatile.place (at s d).durable.outcomes
+  pub places : (d sh : ℕ) → Passed s.parties.layout sh (shard_in s d sh).durable.finished (shard_in s d sh).volatile.cursor (at s d).durable.outcomes
 
 -- the lists of z begin with those of s
 pub record Extends (s z : Scene) : Type 0 where
@@ -94,9 +94,9 @@ module _ (c : Layout) (lay : IsLayout c) (s : Scene) (agree : AllAgree c s) (t :
       ap (λ z. Commit z) (one_body c t s (agree t) m.0 n.0 x y m.1 n.1)
 
 -- SHARD SERVERS
-module _ (s : Scene) (h : Cited s) (d sh : ℕ) (there : ThereIs s d sh) (up : Bool) (r : Option Record) (v : ShardVolatile) (ms : Sends)
+module _ (s : Scene) (h : Cited s) (d sh : ℕ) (there : ThereIs s d sh) (up : Bool) (r : Option Record) (v : ShardVolatile) (ms : Posts)
     (asks : EachTo (Asks d) ms) (enders : Enders s d r)
-    (passed : Passed s.parties.layout sh (applied shard_applied (shard_in s d sh).durable r).finished v.place (at s d).durable.outcomes) where
+    (passed : Passed s.parties.layout sh (applied shard_applied (shard_in s d sh).durable r).finished v.cursor (at s d).durable.outcomes) where
   abbrev y : ShardNode
   y = record { up = up; log = logged (shard_in s d sh).log r; durable = applied shard_applied (shard_in s d sh).durable r; volatile = v }
 
@@ -129,7 +129,7 @@ module _ (s : Scene) (h : Cited s) (d sh : ℕ) (there : ThereIs s d sh) (up : B
       record {
         says = λ e i. ⊎_elim (λ old. cites_on s z same e.from e.to e.msg (h.says e old)) (λ new. subst (λ f. Cites z f e.to e.msg) (sym new.1) (asked e.to e.msg (asks.each e.to e.msg new.0))) (in_sent s.sent (shard_server d sh) ms e i);
         ends = put_server (λ e eh (n : ShardNode). EndsIn (at s e).durable.outcomes n.durable) s.parties d sh (shard_in s d sh) y there (λ e eh _. h.ends e eh) (ends_now r enders);
-        places = put_server (λ e eh (n : ShardNode). Passed s.parties.layout eh n.durable.finished n.volatile.place (at s e).durable.outcomes) s.parties d sh (shard_in s d sh) y there (λ e eh _. h.places e eh) passed;
+        places = put_server (λ e eh (n : ShardNode). Passed s.parties.layout eh n.durable.finished n.volatile.cursor (at s e).durable.outcomes) s.parties d sh (shard_in s d sh) y there (λ e eh _. h.places e eh) passed;
       }
 
 row : (s : Scene) → Cited s → (d sh : ℕ) (k : NodeCause) → DueTo s d sh k → PageRow s d sh (shard_act_of s d sh k)
@@ -164,8 +164,8 @@ module _ (s : Scene) (h : Cited s) (d : ℕ) (there : There s d) (up : Bool) (a 
       record {
         says = λ e i. ⊎_elim (λ old. cites_on s now lists_longer e.from e.to e.msg (h.says e old)) (λ n. subst (λ f. Cites now f e.to e.msg) (sym n.1) (new e.to e.msg n.0)) (in_sent s.sent (coordinator d) a.sends e i);
         ends = λ e eh t outcome is. let x = h.ends e eh t outcome is in (x.0, listed_on s now lists_longer e (t, x.0) x.1, x.2);
-        places = λ e eh. subst (Passed s.parties.layout eh (shard_in s e eh).durable.finished (shard_in s e eh).volatile.place) (sym (lists_longer.lists e).1)
-            (passed_on s.parties.layout eh (shard_in s e eh).durable.finished (shard_in s e eh).volatile.place (at s e).durable.outcomes (lists_longer.lists e).0 (h.places e eh));
+        places = λ e eh. subst (Passed s.parties.layout eh (shard_in s e eh).durable.finished (shard_in s e eh).volatile.cursor) (sym (lists_longer.lists e).1)
+            (passed_on s.parties.layout eh (shard_in s e eh).durable.finished (shard_in s e eh).volatile.cursor (at s e).durable.outcomes (lists_longer.lists e).0 (h.places e eh));
       }
 
 module _ (c : Layout) (lay : IsLayout c) (s : Scene) (p : Whole c s) (h : Cited s) (d : ℕ) (there : There s d) (k : NodeCause) (due : Due s d k) where
@@ -232,7 +232,7 @@ mute_cites s u to (CatchAsk p) h = λ d sh e. absurd (other d sh e)
     other d sh e = cc
 mute_cites s u to _ h = tt
 
-client_cited : (s : Scene) (u : ℕ) (cs : Table ℕ Client) (ms : Sends) → ((to : Party) (m : Msg) → In (to, m) ms → Mute m) → Cited s
+client_cited : (s : Scene) (u : ℕ) (cs : Table ℕ Client) (ms : Posts) → ((to : Party) (m : Msg) → In (to, m) ms → Mute m) → Cited s
     → Cited (record { parties = record s.parties { clients = cs }; sent = s.sent ++ envelopes (client_of u) ms })
 client_cited s u cs ms q h =
     let z : Scene = record { parties = record s.parties { clients = cs }; sent = s.sent ++ envelopes (client_of u) ms } in
@@ -283,5 +283,5 @@ new_cited c =
     record {
       says = λ e i. absurd i;
       ends = λ d sh. subst (λ (n : ShardNode). EndsIn (at s d).durable.outcomes n.durable) (sym (new_server c d sh)) (λ t outcome is. never outcome is);
-      places = λ d sh. subst (λ (n : ShardNode). Passed s.parties.layout sh n.durable.finished n.volatile.place (at s d).durable.outcomes) (sym (new_server c d sh)) (passed_none s.parties.layout sh [] (at s d).durable.outcomes);
+      places = λ d sh. subst (λ (n : ShardNode). Passed s.parties.layout sh n.durable.finished n.volatile.cursor (at s d).durable.outcomes) (sym (new_server c d sh)) (passed_none s.parties.layout sh [] (at s d).durable.outcomes);
     }

@@ -99,7 +99,7 @@ module _ (c : Layout) (v : World) (start : Start) (is_start : IsStartOf v start)
         says = λ e i. old_cites z (kept c v start is_start whole) e.from e.to e.msg (reopens_old c v start is_start whole e i);
         ends = λ d sh. subst (λ (q : CoordNode × ShardNode). EndsIn q.0.durable.outcomes q.1.durable) (λ i. (sym (at_open c v start is_start whole d) i, sym (server_open c v start is_start whole d sh) i))
             (subst (λ (q : CoordDurable × ShardDurable). EndsIn q.0.outcomes q.1) (λ i. (((g.holds.0.0.0.0 0).coords d).replays i, g.holds.0.0.0.1.replays d sh i)) (g.holds.0.1.ends d sh));
-        places = λ d sh. subst (λ (n : ShardNode). Passed v.parties.layout sh n.durable.finished n.volatile.place (at z d).durable.outcomes) (sym (server_open c v start is_start whole d sh))
+        places = λ d sh. subst (λ (n : ShardNode). Passed v.parties.layout sh n.durable.finished n.volatile.cursor (at z d).durable.outcomes) (sym (server_open c v start is_start whole d sh))
             (passed_none v.parties.layout sh (shard_started (shard_in s d sh).log).durable.finished (at z d).durable.outcomes);
       }
 

@@ -17,7 +17,7 @@ use Rattle.rc_record.specs.declared.record.Record.{Record}
 use Rattle.rc_record.specs.declared.record.Record.TheVariants.{Head, Prepared as PartPrepared, Finished, Promised, Accepted, Decided}
 use Rattle.rc_record.specs.ShardState.{ShardDurable, settled, settled_new, settled_all, shard_applied}
 use Rattle.rc_protocol.specs.Messages.{coordinator, shard_server}
-use Rattle.rc_protocol.specs.Shard.{ShardVolatile, ShardAct, shard_stays, test, concerns, cut_to_part, is_free, grant_of, grants, ignores_ask, on_read_ask, on_prepare, on_finish, finishes, forgotten, forgotten_all, unfinished, is_next_page, with_place, asks_next, then_says, takes_page, on_catch_page, shard_row}
+use Rattle.rc_protocol.specs.Shard.{ShardVolatile, ShardAct, shard_stays, test, concerns, cut_to_part, is_free, grant_of, grants, ignores_ask, on_read_ask, on_prepare, on_finish, finishes_page, forgotten, forgotten_all, unfinished, is_next_shard_page, with_shard_cursor, asks_next_shard_page, then_says, takes_page, on_catch_page, shard_row}
 use Rattle.rc_protocol.specs.Nodes.{applied}
 use Rattle.rc_agreement.proofs.Cases.{on_cond, on_maybe, and_left}
 use Rattle.rc_agreement.proofs.Tables.{put_same, put_cases, in_map}
@@ -83,7 +83,7 @@ ends_kept (Some (Promised t b)) x u h = h
 ends_kept (Some (Accepted t b o)) x u h = h
 ends_kept (Some (Decided p)) x u h = h
 
-forgotten_place : (v : ShardVolatile) (es : Page) → (forgotten_all v es).place ≡ v.place
+forgotten_place : (v : ShardVolatile) (es : Page) → (forgotten_all v es).cursor ≡ v.cursor
 forgotten_place v [] = refl
 forgotten_place v (e ∷ es) = forgotten_place (forgotten v e.0) es
 
@@ -106,9 +106,9 @@ map_in f x (y ∷ ys) i = ⊎_elim (λ e. inl (ap f e)) (λ j. inr (map_in f x y
 pub record PageRow (s : Scene) (d sh : ℕ) (a : ShardAct) : Type 0 where
   pub says : EachTo (Asks d) a.sends
   pub enders : Enders s d a.logs
-  pub passed : Passed s.parties.layout sh (applied shard_applied (shard_in s d sh).durable a.logs).finished a.after.place (at s d).durable.outcomes
+  pub passed : Passed s.parties.layout sh (applied shard_applied (shard_in s d sh).durable a.logs).finished a.after.cursor (at s d).durable.outcomes
 
-module _ (s : Scene) (d sh : ℕ) (old : Passed s.parties.layout sh (shard_in s d sh).durable.finished (shard_in s d sh).volatile.place (at s d).durable.outcomes) where
+module _ (s : Scene) (d sh : ℕ) (old : Passed s.parties.layout sh (shard_in s d sh).durable.finished (shard_in s d sh).volatile.cursor (at s d).durable.outcomes) where
   abbrev cl : Layout
   cl = s.parties.layout
 
@@ -125,13 +125,13 @@ module _ (s : Scene) (d sh : ℕ) (old : Passed s.parties.layout sh (shard_in s 
   R a = PageRow s d sh a
 
   -- the place is as before
-  stays_so : (a : ShardAct) → EachTo (Asks d) a.sends → Enders s d a.logs → a.after.place ≡ vol.place → R a
+  stays_so : (a : ShardAct) → EachTo (Asks d) a.sends → Enders s d a.logs → a.after.cursor ≡ vol.cursor → R a
   stays_so a m n e =
       record {
         says = m;
         enders = n;
         passed = subst (λ k. Passed cl sh (applied shard_applied dur a.logs).finished k list) (sym e)
-            (passed_more cl sh dur.finished (applied shard_applied dur a.logs).finished vol.place list (λ t h. ends_kept a.logs dur t h) old);
+            (passed_more cl sh dur.finished (applied shard_applied dur a.logs).finished vol.cursor list (λ t h. ends_kept a.logs dur t h) old);
       }
 
   idle : R (shard_stays vol)
@@ -140,7 +140,7 @@ module _ (s : Scene) (d sh : ℕ) (old : Passed s.parties.layout sh (shard_in s 
   grants_ask : (z : ShardDurable) (v : ShardVolatile) → EachTo (Asks d) (grants d z v)
   grants_ask z v = to_map (Asks d) (grant_of d z.rows) (filter (is_free z.parts) v.waiting) (λ m. tt)
 
-  next_asks : (place : ℕ) (es : Page) → EachTo (Asks d) (asks_next d place es)
+  next_asks : (place : ℕ) (es : Page) → EachTo (Asks d) (asks_next_shard_page d place es)
   next_asks place es = on_cond (EachTo (Asks d)) (length es == 64) _ _ (λ _. to_one (Asks d) (coordinator d) (CatchAsk (place + length es)) refl) (λ _. to_none (Asks d))
 
   read_ask : (t : ℕ) (k : List ℕ) → R (on_read_ask d dur vol t k)
@@ -162,7 +162,7 @@ module _ (s : Scene) (d sh : ℕ) (old : Passed s.parties.layout sh (shard_in s 
   finish : (t : ℕ) (o : Decision) → (p : Decision) × In (t, p) list × (o ≡ cut_to_part cl sh p) → R (on_finish d dur vol t o)
   finish t o x =
       on_cond R (is_some (found nat_cmp dur.finished t)) _ _ (λ _. idle)
-      (λ _. stays_so (finishes d dur vol ((t, o) ∷ [])) (grants_ask (settled_all dur ((t, o) ∷ [])) (forgotten_all vol ((t, o) ∷ [])))
+      (λ _. stays_so (finishes_page d dur vol ((t, o) ∷ [])) (grants_ask (settled_all dur ((t, o) ∷ [])) (forgotten_all vol ((t, o) ∷ [])))
       (λ u q i. ⊎_elim
       (λ (e : (t, o) ≡ (u, q)). subst (λ (z : ℕ × Decision). (p : Decision) × In (z.0, p) list × (outcome_of p ≡ outcome_of z.1)) e (x.0, x.1, sym (ap outcome_of x.2 ∙ cut_outcome s sh x.0)))
       (λ n. absurd n) i) refl)
@@ -173,8 +173,8 @@ module _ (s : Scene) (d sh : ℕ) (old : Passed s.parties.layout sh (shard_in s 
   -- a page of the list
   page : (place : ℕ) (es : Page) → Slice place es list → R (on_catch_page cl d sh dur vol place es)
   page place es slice =
-      on_cond R (is_next_page vol place es) _ _
-      (λ t. takes (eqb-true place vol.place (and_left (place == vol.place) _ t)) (unfinished cl sh dur es) enders all)
+      on_cond R (is_next_shard_page vol place es) _ _
+      (λ t. takes (eqb-true place vol.cursor (and_left (place == vol.cursor) _ t)) (unfinished cl sh dur es) enders all)
       (λ _. idle)
     where
       enders : (t : ℕ) (o : Decision) → In (t, o) (unfinished cl sh dur es) → (p : Decision) × In (t, p) list × (outcome_of p ≡ outcome_of o)
@@ -190,29 +190,29 @@ module _ (s : Scene) (d sh : ℕ) (old : Passed s.parties.layout sh (shard_in s 
           go true e = inl e
           go false e = inr (cut_to_part cl sh o, map_in (λ (e : ℕ × Decision). (e.0, cut_to_part cl sh e.1)) (t, o) (filter left es) (filter_in left (t, o) es i (rw (none_of _ e, w))))
 
-      takes : place ≡ vol.place → (new : Page) → ((t : ℕ) (o : Decision) → In (t, o) new → (p : Decision) × In (t, p) list × (outcome_of p ≡ outcome_of o))
+      takes : place ≡ vol.cursor → (new : Page) → ((t : ℕ) (o : Decision) → In (t, o) new → (p : Decision) × In (t, p) list × (outcome_of p ≡ outcome_of o))
           → ((t : ℕ) (o : Decision) → In (t, o) es → concerns cl sh o ≡ true → Ends dur.finished t ⊎ ((p : Decision) × In (t, p) new))
-          → R (then_says (takes_page d dur (with_place vol (place + length es)) new) (asks_next d place es))
+          → R (then_says (takes_page d dur (with_shard_cursor vol (place + length es)) new) (asks_next_shard_page d place es))
       takes same [] n h =
           record {
             says = to_both (Asks d) [] _ (to_none (Asks d)) (next_asks place es);
             enders = tt;
             passed = subst (λ k. Passed cl sh dur.finished (k + length es) list) (sym same)
-                (passed_page cl sh dur.finished vol.place es list (subst (λ k. Slice k es list) same slice) (λ t o i w. ⊎_elim (λ a. a) (λ (b : (p : Decision) × ⊥). absurd b.1) (h t o i w)) old);
+                (passed_page cl sh dur.finished vol.cursor es list (subst (λ k. Slice k es list) same slice) (λ t o i w. ⊎_elim (λ a. a) (λ (b : (p : Decision) × ⊥). absurd b.1) (h t o i w)) old);
           }
       takes same (x ∷ xs) n h =
           let z : ShardDurable = settled_all dur (x ∷ xs) in
           record {
-            says = to_both (Asks d) _ _ (grants_ask z (forgotten_all (with_place vol (place + length es)) (x ∷ xs))) (next_asks place es);
+            says = to_both (Asks d) _ _ (grants_ask z (forgotten_all (with_shard_cursor vol (place + length es)) (x ∷ xs))) (next_asks place es);
             enders = n;
-            passed = subst (λ k. Passed cl sh z.finished k list) (ap (λ k. k + length es) (sym same) ∙ sym (forgotten_place (with_place vol (place + length es)) (x ∷ xs)))
-                (passed_page cl sh z.finished vol.place es list (subst (λ k. Slice k es list) same slice)
+            passed = subst (λ k. Passed cl sh z.finished k list) (ap (λ k. k + length es) (sym same) ∙ sym (forgotten_place (with_shard_cursor vol (place + length es)) (x ∷ xs)))
+                (passed_page cl sh z.finished vol.cursor es list (subst (λ k. Slice k es list) same slice)
                 (λ t o i w. ⊎_elim (λ a. (ends_all dur (x ∷ xs) t).0 a) (λ (b : (p : Decision) × In (t, p) (x ∷ xs)). (ends_all dur (x ∷ xs) t).1 b.0 b.1) (h t o i w))
-                (passed_more cl sh dur.finished z.finished vol.place list (λ t e. (ends_all dur (x ∷ xs) t).0 e) old));
+                (passed_more cl sh dur.finished z.finished vol.cursor list (λ t e. (ends_all dur (x ∷ xs) t).0 e) old));
           }
 
   pub page_row : (k : NodeCause) → ((from : Party) (m : Msg) → k ≡ Came from m → Cites s from (shard_server d sh) m) → R (shard_act_of s d sh k)
-  page_row Catches h = stays_so _ (to_one (Asks d) (coordinator d) (CatchAsk vol.place) refl) tt refl
+  page_row Catches h = stays_so _ (to_one (Asks d) (coordinator d) (CatchAsk vol.cursor) refl) tt refl
   page_row (Takes t) h = idle
   page_row (Came from m) h = comes m (h from m refl)
     where

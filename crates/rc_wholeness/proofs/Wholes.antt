@@ -59,7 +59,7 @@ module _ (c : Layout) (lay : IsLayout c) (s : Scene) (p : Kept c s) where
   learned d t o i = p.0.0.0.1.lists d t o i
 
   -- an entry below the place of a shard that it has to finish
-  pub caught : (d sh n t : ℕ) (o : Decision) → nth (at s d).durable.outcomes n ≡ Some (t, o) → n < (shard_in s d sh).volatile.place → concerns s.parties.layout sh o ≡ true
+  pub caught : (d sh n t : ℕ) (o : Decision) → nth (at s d).durable.outcomes n ≡ Some (t, o) → n < (shard_in s d sh).volatile.cursor → concerns s.parties.layout sh o ≡ true
       → found nat_cmp (shard_in s d sh).durable.finished t ≡ Some (outcome_of o)
   caught d sh n t o e lt mine =
       let h = cited.places d sh in
@@ -104,7 +104,7 @@ module _ (c : Layout) (lay : IsLayout c) (earlier : List World) (w : World) (lif
       let a = node_is w.parties d y here in
       let b = server_is w.parties d sh x there in
       subst (λ (n : ShardNode). found nat_cmp n.durable.finished t ≡ Some (outcome_of o)) b
-      (caught c lay (s g) g.holds d sh n t o (subst (λ (z : CoordNode). nth z.durable.outcomes n ≡ Some (t, o)) (sym a) e) (subst (λ (z : ShardNode). n < z.volatile.place) (sym b) lt) mine)
+      (caught c lay (s g) g.holds d sh n t o (subst (λ (z : CoordNode). nth z.durable.outcomes n ≡ Some (t, o)) (sym a) e) (subst (λ (z : ShardNode). n < z.volatile.cursor) (sym b) lt) mine)
 
   whole : (d t : ℕ) (o : Decision) → outcome_of o ≡ Committed → In (t, o) (at (scene w) d).durable.outcomes → IsWhole w d t
   whole d t Abort e i = absurd (differ (sym e))
@@ -123,7 +123,7 @@ module _ (c : Layout) (lay : IsLayout c) (earlier : List World) (w : World) (lif
         others = λ sh x is touch.
             let b = server_is w.parties d sh x is in
             subst (λ (z : ShardNode). HasOrGets z t n.0) b
-            (⊎_elim (λ (lt : n.0 < (shard_in (s g) d sh).volatile.place). inl (caught c lay (s g) g.holds d sh n.0 t (Commit body) n.1 lt touch)) inr (below n.0 (shard_in (s g) d sh).volatile.place));
+            (⊎_elim (λ (lt : n.0 < (shard_in (s g) d sh).volatile.cursor). inl (caught c lay (s g) g.holds d sh n.0 t (Commit body) n.1 lt touch)) inr (below n.0 (shard_in (s g) d sh).volatile.cursor));
       }
 
   pub applied_is_whole : AppliedIsWhole w

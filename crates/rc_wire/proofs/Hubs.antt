@@ -19,7 +19,8 @@ use Rattle.rc_wire.specs.declared.turn.Act.TheVariants.{Rested, Halted}
 use Rattle.rc_wire.specs.declared.turn.HaltCause.{HaltCause}
 use Rattle.rc_wire.specs.declared.want.Want.{Want}
 use Rattle.rc_wire.specs.declared.turn.Turn.{Turn}
-use Rattle.rc_wire.specs.Parties.{is_node, is_party, all_differ}
+use Rattle.rc_ids.specs.Parties.{is_same_node, is_same_party}
+use Rattle.rc_wire.specs.Parties.{all_differ}
 use Rattle.rc_wire.specs.Standings.{turn, by, after, after_all, at_first, standing, desk, desks_of, parties_of, done, stood, noted, left}
 use Rattle.rc_wire.specs.Traffic.{Traffic, traffic_of, moved, moved_by_all, no_traffic, traffic}
 use Rattle.rc_wire.specs.Wants.{is_for}
@@ -29,23 +30,23 @@ use Rattle.rc_wire.specs.Chronicle.{Chronicle, IsHub, owed, chronicle, more}
 same_number : (a b : ℕ) → (a == b) ≡ (b == a)
 same_number a b = dite (ℕ_discrete a b) (λ e. eq-eqb a b e ∙ sym (eq-eqb b a (sym e))) (λ ne. ne_eqb a b ne ∙ sym (ne_eqb b a (λ e. ne (sym e))))
 
-node_back : (m n : NodeId) → is_node m n ≡ is_node n m
+node_back : (m n : NodeId) → is_same_node m n ≡ is_same_node n m
 node_back (Coord d) (Coord e) = same_number d e
 node_back (Coord d) (Shard e t) = refl
 node_back (Shard d s) (Coord e) = refl
 node_back (Shard d s) (Shard e t) = λ j. same_number d e j && same_number s t j
 
-pub party_back : (p q : Party) → is_party p q ≡ is_party q p
+pub party_back : (p q : Party) → is_same_party p q ≡ is_same_party q p
 party_back (Node m) (Node n) = node_back m n
 party_back (Node m) (Client t) = refl
 party_back (Client t) (Node m) = refl
 party_back (Client t) (Client u) = same_number t u
 
-node_itself : (n : NodeId) → is_node n n ≡ true
+node_itself : (n : NodeId) → is_same_node n n ≡ true
 node_itself (Coord d) = eq-eqb d d refl
 node_itself (Shard d s) = ap (λ b. b && (s == s)) (eq-eqb d d refl) ∙ eq-eqb s s refl
 
-pub party_itself : (p : Party) → is_party p p ≡ true
+pub party_itself : (p : Party) → is_same_party p p ≡ true
 party_itself (Node n) = node_itself n
 party_itself (Client t) = eq-eqb t t refl
 
@@ -66,19 +67,19 @@ and_right true b e = absurd cc
 and_right false b e = e
 
 -- ENTRIES
-pub by_more : (q : Party) (turns : List Turn) (t : Turn) → by q (turns ++ t ∷ []) ≡ by q turns ++ cond (is_party t.party q) (t ∷ []) []
+pub by_more : (q : Party) (turns : List Turn) (t : Turn) → by q (turns ++ t ∷ []) ≡ by q turns ++ cond (is_same_party t.party q) (t ∷ []) []
 by_more q [] t = refl
-by_more q (x ∷ xs) t = at_head (is_party x.party q) (by_more q xs t)
+by_more q (x ∷ xs) t = at_head (is_same_party x.party q) (by_more q xs t)
   where
-    at_head : (b : Bool) → by q (xs ++ t ∷ []) ≡ by q xs ++ cond (is_party t.party q) (t ∷ []) []
-        → cond b (x ∷ by q (xs ++ t ∷ [])) (by q (xs ++ t ∷ [])) ≡ cond b (x ∷ by q xs) (by q xs) ++ cond (is_party t.party q) (t ∷ []) []
+    at_head : (b : Bool) → by q (xs ++ t ∷ []) ≡ by q xs ++ cond (is_same_party t.party q) (t ∷ []) []
+        → cond b (x ∷ by q (xs ++ t ∷ [])) (by q (xs ++ t ∷ [])) ≡ cond b (x ∷ by q xs) (by q xs) ++ cond (is_same_party t.party q) (t ∷ []) []
     at_head true e = ap (λ r. x ∷ r) e
     at_head false e = e
 
 pub by_own : (p : Party) (turns : List Turn) (act : Act) → by p (turns ++ turn p act ∷ []) ≡ by p turns ++ turn p act ∷ []
 by_own p turns act = by_more p turns (turn p act) ∙ ap (λ b. by p turns ++ cond b (turn p act ∷ []) []) (party_itself p)
 
-pub by_other : (q : Party) (turns : List Turn) (t : Turn) → is_party t.party q ≡ false → by q (turns ++ t ∷ []) ≡ by q turns
+pub by_other : (q : Party) (turns : List Turn) (t : Turn) → is_same_party t.party q ≡ false → by q (turns ++ t ∷ []) ≡ by q turns
 by_other q turns t e = by_more q turns t ∙ ap (λ b. by q turns ++ cond b (t ∷ []) []) e ∙ append-nil (by q turns)
 
 after_last : (s : Standing) (xs : List Turn) (t : Turn) → after_all s (xs ++ t ∷ []) ≡ after (after_all s xs) t.act
@@ -96,7 +97,7 @@ own_desk turns d act is =
     = ap (λ (x : Desk). after x.standing act) is ∙ sym (ap standing (by_own d.party turns act) ∙ after_last at_first (by d.party turns) (turn d.party act)) in
     λ j. record { party = d.party; standing = s j }
 
-other_desk : (turns : List Turn) (d : Desk) (t : Turn) → d ≡ desk turns d.party → is_party t.party d.party ≡ false → d ≡ desk (turns ++ t ∷ []) d.party
+other_desk : (turns : List Turn) (d : Desk) (t : Turn) → d ≡ desk turns d.party → is_same_party t.party d.party ≡ false → d ≡ desk (turns ++ t ∷ []) d.party
 other_desk turns d t is other = is ∙ (λ j. record { party = d.party; standing = standing (sym (by_other d.party turns t other) j) })
 
 first_is : (x y : Desk) (xs ys : List Desk) → x ∷ xs ≡ y ∷ ys → x ≡ y
@@ -105,11 +106,11 @@ first_is x y xs ys e = cc
 rest_is : (x y : Desk) (xs ys : List Desk) → x ∷ xs ≡ y ∷ ys → xs ≡ ys
 rest_is x y xs ys e = cc
 
-other_desks : (turns : List Turn) (t : Turn) (ds : List Desk) → ds ≡ desks_of (parties_of ds) turns → list_any (is_party t.party) (parties_of ds) ≡ false → ds ≡ desks_of (parties_of ds) (turns ++ t ∷ [])
+other_desks : (turns : List Turn) (t : Turn) (ds : List Desk) → ds ≡ desks_of (parties_of ds) turns → list_any (is_same_party t.party) (parties_of ds) ≡ false → ds ≡ desks_of (parties_of ds) (turns ++ t ∷ [])
 other_desks turns t [] is none = refl
 other_desks turns t (d ∷ ds) is none =
-    let h = other_desk turns d t (first_is d (desk turns d.party) ds (desks_of (parties_of ds) turns) is) (or_left (is_party t.party d.party) (list_any (is_party t.party) (parties_of ds)) none) in
-    let r = other_desks turns t ds (rest_is d (desk turns d.party) ds (desks_of (parties_of ds) turns) is) (or_right (is_party t.party d.party) (list_any (is_party t.party) (parties_of ds)) none) in
+    let h = other_desk turns d t (first_is d (desk turns d.party) ds (desks_of (parties_of ds) turns) is) (or_left (is_same_party t.party d.party) (list_any (is_same_party t.party) (parties_of ds)) none) in
+    let r = other_desks turns t ds (rest_is d (desk turns d.party) ds (desks_of (parties_of ds) turns) is) (or_right (is_same_party t.party d.party) (list_any (is_same_party t.party) (parties_of ds)) none) in
     λ j. h j ∷ r j
 
 -- the entry of a place
@@ -127,18 +128,18 @@ pub desks_more : (turns : List Turn) (ds : List Desk) (k : ℕ) (act : Act) → 
     → stood ds k act ≡ desks_of (parties_of ds) (turns ++ noted ds k act)
 desks_more turns [] k act lt is differ = absurd (omega arith)
 desks_more turns (d ∷ ds) zero act lt is differ =
-    let none = and_left (list_any (is_party d.party) (parties_of ds)) (all_differ (parties_of ds)) differ in
+    let none = and_left (list_any (is_same_party d.party) (parties_of ds)) (all_differ (parties_of ds)) differ in
     let h = own_desk turns d act (first_is d (desk turns d.party) ds (desks_of (parties_of ds) turns) is) in
     let r = other_desks turns (turn d.party act) ds (rest_is d (desk turns d.party) ds (desks_of (parties_of ds) turns) is) none in
     λ j. h j ∷ r j
 desks_more turns (d ∷ ds) (suc k) act lt is differ =
-    let none = and_left (list_any (is_party d.party) (parties_of ds)) (all_differ (parties_of ds)) differ in
+    let none = and_left (list_any (is_same_party d.party) (parties_of ds)) (all_differ (parties_of ds)) differ in
     let here : k < length ds = omega arith in
     let p = (get_or ds k d).party in
-    let other = party_back p d.party ∙ any_not (is_party d.party) ds k d here none in
+    let other = party_back p d.party ∙ any_not (is_same_party d.party) ds k d here none in
     let note = noted_is ds k act here d in
     let h = other_desk turns d (turn p act) (first_is d (desk turns d.party) ds (desks_of (parties_of ds) turns) is) other ∙ ap (λ ts. desk (turns ++ ts) d.party) (sym note) in
-    let r = desks_more turns ds k act here (rest_is d (desk turns d.party) ds (desks_of (parties_of ds) turns) is) (and_right (list_any (is_party d.party) (parties_of ds)) (all_differ (parties_of ds)) differ) in
+    let r = desks_more turns ds k act here (rest_is d (desk turns d.party) ds (desks_of (parties_of ds) turns) is) (and_right (list_any (is_same_party d.party) (parties_of ds)) (all_differ (parties_of ds)) differ) in
     λ j. h j ∷ r j
 
 pub stood_parties : (ds : List Desk) (k : ℕ) (act : Act) → parties_of (stood ds k act) ≡ parties_of ds

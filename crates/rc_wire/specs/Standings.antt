@@ -9,7 +9,8 @@ use Rattle.rc_wire.specs.declared.turn.Act.TheVariants.{Took, Posted, Rested, Ha
 use Rattle.rc_wire.specs.declared.turn.StepEnd.{StepEnd}
 use Rattle.rc_wire.specs.declared.turn.StepEnd.TheVariants.{Handled, Stopped, Restarted, Idle}
 use Rattle.rc_wire.specs.declared.turn.Turn.{Turn}
-use Rattle.rc_wire.specs.Parties.{is_party, is_client}
+use Rattle.rc_ids.specs.Parties.{is_same_party}
+use Rattle.rc_wire.specs.Parties.{is_client}
 
 abbrev pub turn : Party → Act → Turn
 turn party act = record { party = party; act = act }
@@ -17,7 +18,7 @@ turn party act = record { party = party; act = act }
 -- the entries of a party, in order
 abbrev pub by : Party → List Turn → List Turn
 by party [] = []
-by party (t ∷ ts) = if is_party t.party party then t ∷ by party ts else by party ts
+by party (t ∷ ts) = if is_same_party t.party party then t ∷ by party ts else by party ts
 
 -- before its first entry a party has no step open, and neither waits nor has ended
 abbrev pub at_first : Standing

@@ -4,7 +4,7 @@ use Rattle.rc_ids.specs.declared.names.Party.{Party}
 use Rattle.rc_net.specs.Network.{Message, message}
 use Rattle.rc_wire.specs.declared.want.Want.{Want}
 use Rattle.rc_wire.specs.declared.want.Want.TheVariants.{Reads, Rest, Any}
-use Rattle.rc_wire.specs.Parties.{is_party}
+use Rattle.rc_ids.specs.Parties.{is_same_party}
 use Rattle.rc_wire.specs.Traffic.{Traffic}
 
 -- how many bytes a party has, by its first byte: a coordinator, a shard server, a client
@@ -38,7 +38,7 @@ is_wanted Any bytes = true
 -- a message for the party, that it wants
 abbrev pub is_for : Party → Want → Option Message → Bool
 is_for party want None = false
-is_for party want (Some m) = is_party m.to party && is_wanted want m.bytes
+is_for party want (Some m) = is_same_party m.to party && is_wanted want m.bytes
 
 -- the first of these messages that is for the party and wanted
 abbrev pub first_for : Party → Want → List Message → List ℕ → Option ℕ

@@ -4,7 +4,6 @@ ghost use Rattle.rc_net.specs.Network.{Message, message};
 ghost use Rattle.rc_wire.specs.Wants.{is_for as is_message_for, first_for};
 ghost use Rattle.rc_wire.specs.Traffic.{Traffic, taken, traffic_of};
 
-use crate::standing::is_party;
 use crate::want::{Want, is_wanted};
 use rc_ids::{Blob, NoMemory, Party};
 use rc_net::{Net, same_party};
@@ -15,7 +14,7 @@ fn is_for(net: &Net, number: u32, party: &Party, want: Want) -> bool
     ensures { result ≡ is_message_for party.now want (message net.now.sent number) }
 {
     match net.sent(number) {
-        Some(sent) => is_party(&sent.to, party) && is_wanted(want, sent.bytes),
+        Some(sent) => sent.to.is(party) && is_wanted(want, sent.bytes),
         None => false,
     }
 }

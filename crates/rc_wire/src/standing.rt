@@ -2,11 +2,11 @@
 ghost use Rattle.std.specs.Prelude.{◌≡◌, not, ◌&&◌, ◌+◌, ◌<◌, ◌++◌, length, List, vec_len, vec_capacity};
 ghost use Rattle.rc_ids.specs.declared.sends.Letter.{Letter as Sent};
 ghost use Rattle.rc_wire.specs.declared.turn.Act.TheVariants.{Posted as Posting};
-ghost use Rattle.rc_wire.specs.Parties.{is_node, is_party as is_one_party, is_client as is_of_client};
+ghost use Rattle.rc_wire.specs.Parties.{is_client as is_of_client};
 ghost use Rattle.rc_wire.specs.Standings.{after as standing_after, is_still as is_desk_still, stood, noted};
 
 use crate::turn::{Act, StepEnd, Turn};
-use rc_ids::{NodeId, Party};
+use rc_ids::Party;
 use rc_net::same_party;
 
 /// Where a party stands, by its own entries.
@@ -26,37 +26,6 @@ pub struct Standing {
 pub struct Desk {
     pub party: Party,
     pub standing: Standing,
-}
-
-fn is_same_node(node: &NodeId, other: &NodeId) -> bool
-    ensures { result ≡ is_node node.now other.now }
-{
-    match node {
-        NodeId::Coord(dc) => match other {
-            NodeId::Coord(other_dc) => dc == other_dc,
-            NodeId::Shard(_, _) => false,
-        },
-        NodeId::Shard(dc, shard) => match other {
-            NodeId::Coord(_) => false,
-            NodeId::Shard(other_dc, other_shard) => dc == other_dc && shard == other_shard,
-        },
-    }
-}
-
-/// Whether both are one party.
-pub fn is_party(party: &Party, other: &Party) -> bool
-    ensures { result ≡ is_one_party party.now other.now }
-{
-    match party {
-        Party::Node(node) => match other {
-            Party::Node(other_node) => is_same_node(node, other_node),
-            Party::Client(_) => false,
-        },
-        Party::Client(tx) => match other {
-            Party::Node(_) => false,
-            Party::Client(other_tx) => tx == other_tx,
-        },
-    }
 }
 
 fn is_client(party: &Party) -> bool

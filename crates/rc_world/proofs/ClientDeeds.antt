@@ -10,12 +10,12 @@ use Rattle.rc_ids.specs.Cluster.{Layout}
 use Rattle.rc_body.specs.declared.entry.Entry.{Entry}
 use Rattle.rc_report.specs.declared.fault.Which.TheVariants.{Version}
 use Rattle.rc_report.specs.declared.line.Line.{Line}
-use Rattle.rc_protocol.specs.Messages.{Sends}
+use Rattle.rc_protocol.specs.Messages.{Posts}
 use Rattle.rc_protocol.specs.Client.{Client, ClientAct, ClientRefusal, KeyWornOut as IsWornOut, client_stays}
 use Rattle.rc_protocol.specs.Acts.{ClientCause, client_act, client_by_row, refusal}
 use Rattle.rc_runs.specs.World.{Deed, Idle, ByClient, Course, Goes, Stops, along, client_does, replaced, with_client}
 use Rattle.rc_runs.specs.Refusals.{limit_of, worn_out}
-use Rattle.rc_runs.specs.Session.{no_work}
+use Rattle.rc_runs.specs.Session.{no_change}
 use Rattle.rc_world.specs.Hosts.{CoordSite, ShardSite}
 use Rattle.rc_world.specs.Acted.{Housed, housed, deed_work, Acted, Refuses, Wears}
 use Rattle.rc_world.specs.declared.fault.ActFault.{ActFault}
@@ -36,17 +36,17 @@ row_is_part c t None x may = refl
 row_is_part c t (Some cause) x may = acts_so c t x cause may
 
 -- nothing was done
-record Rests (clients clients' : Table ℕ Client) (out : Sends) (lines printed : List Line) : Type 0 where
+record Rests (clients clients' : Table ℕ Client) (out : Posts) (lines printed : List Line) : Type 0 where
   pub same : clients' ≡ clients
   pub sends : out ≡ []
   pub prints : printed ≡ lines
 
 -- what the client of t makes of all
-abbrev Makes : Table ℕ Client → Table ℕ Client → ℕ → ClientAct → Sends → List Line → List Line → Type 0
+abbrev Makes : Table ℕ Client → Table ℕ Client → ℕ → ClientAct → Posts → List Line → List Line → Type 0
 Makes clients clients' t act out lines printed =
     (clients' ≡ replaced clients t act.after) × (out ≡ act.sends) × (printed ≡ lines ++ act.lines) × (act.refused ≡ None)
 
-client_rests : (clients clients' : Table ℕ Client) (t : ℕ) (out : Sends) (lines printed : List Line)
+client_rests : (clients clients' : Table ℕ Client) (t : ℕ) (out : Posts) (lines printed : List Line)
     → (found nat_cmp clients t ≡ None → (clients' ≡ clients) × (out ≡ []) × (printed ≡ lines))
     → ((x : Client) → found nat_cmp clients t ≡ Some x → Makes clients clients' t (client_stays x) out lines printed) → Rests clients clients' out lines printed
 client_rests clients clients' t out lines printed outside done = by_client (found nat_cmp clients t) refl
@@ -57,13 +57,13 @@ client_rests clients clients' t out lines printed outside done = by_client (foun
         let r = done x at in
         record { same = r.0 ∙ set_value_same (is_at (nat_cmp t)) clients x at; sends = r.1; prints = r.2 ∙ append-nil lines }
 
-client_idles : (c : Layout) (cs : List CoordSite) (ss : List ShardSite) (clients clients' : Table ℕ Client) (committed : List (ℕ × List Entry)) (out : Sends) (lines printed : List Line)
-    → Rests clients clients' out lines printed → Acted Idle no_work (housed c cs ss clients committed) (housed c cs ss clients' committed) out lines printed
+client_idles : (c : Layout) (cs : List CoordSite) (ss : List ShardSite) (clients clients' : Table ℕ Client) (committed : List (ℕ × List Entry)) (out : Posts) (lines printed : List Line)
+    → Rests clients clients' out lines printed → Acted Idle no_change (housed c cs ss clients committed) (housed c cs ss clients' committed) out lines printed
 client_idles c cs ss clients clients' committed out lines printed r =
-    subst (λ (xs : Table ℕ Client). Acted Idle no_work (housed c cs ss clients committed) (housed c cs ss xs committed) out lines printed) (sym r.same)
+    subst (λ (xs : Table ℕ Client). Acted Idle no_change (housed c cs ss clients committed) (housed c cs ss xs committed) out lines printed) (sym r.same)
     (idle Idle refl (housed c cs ss clients committed) out lines printed r.sends r.prints)
 
-client_did : (c : Layout) (cs : List CoordSite) (ss : List ShardSite) (clients clients' : Table ℕ Client) (committed : List (ℕ × List Entry)) (t : ℕ) (act : ClientAct) (out : Sends) (lines printed : List Line)
+client_did : (c : Layout) (cs : List CoordSite) (ss : List ShardSite) (clients clients' : Table ℕ Client) (committed : List (ℕ × List Entry)) (t : ℕ) (act : ClientAct) (out : Posts) (lines printed : List Line)
     → Makes clients clients' t act out lines printed
     → Acted (ByClient t act) (deed_work (housed c cs ss clients committed) (ByClient t act)) (housed c cs ss clients committed) (housed c cs ss clients' committed) out lines printed
 client_did c cs ss clients clients' committed t act out lines printed made = record {
@@ -74,7 +74,7 @@ client_did c cs ss clients clients' committed t act out lines printed made = rec
   whole = ap (λ (o : Option ClientRefusal). maybe o None limit_of) made.3;
 }
 
-client_deed : (c : Layout) (cs : List CoordSite) (ss : List ShardSite) (clients clients' : Table ℕ Client) (committed : List (ℕ × List Entry)) (t : ℕ) (o : Option ClientCause) (out : Sends) (lines printed : List Line)
+client_deed : (c : Layout) (cs : List CoordSite) (ss : List ShardSite) (clients clients' : Table ℕ Client) (committed : List (ℕ × List Entry)) (t : ℕ) (o : Option ClientCause) (out : Posts) (lines printed : List Line)
     → (found nat_cmp clients t ≡ None → (clients' ≡ clients) × (out ≡ []) × (printed ≡ lines))
     → ((x : Client) → found nat_cmp clients t ≡ Some x → Makes clients clients' t (part_of c t o x) out lines printed)
     → let deed = maybe o Idle (client_does (housed c cs ss clients committed).parties t) in
@@ -95,7 +95,7 @@ client_deed c cs ss clients clients' committed t (Some cause) out lines printed 
         subst Goal (sym (deed_at None at)) (client_idles c cs ss clients clients' committed out lines printed (record { same = r.0; sends = r.1; prints = r.2 }))
     by_client (Some x) at = subst Goal (sym (deed_at (Some x) at)) (client_did c cs ss clients clients' committed t (client_act c t x cause) out lines printed (done x at))
 
-pub client_deed_at : (c : Layout) (cs : List CoordSite) (ss : List ShardSite) (clients clients' : Table ℕ Client) (committed : List (ℕ × List Entry)) (q : Housed) (t : ℕ) (o : Option ClientCause) (out : Sends) (lines printed : List Line)
+pub client_deed_at : (c : Layout) (cs : List CoordSite) (ss : List ShardSite) (clients clients' : Table ℕ Client) (committed : List (ℕ × List Entry)) (q : Housed) (t : ℕ) (o : Option ClientCause) (out : Posts) (lines printed : List Line)
     → housed c cs ss clients committed ≡ q → ((x : Client) → found nat_cmp q.parties.clients t ≡ Some x → maybe o None (refusal x) ≡ None)
     → (found nat_cmp clients t ≡ None → (clients' ≡ clients) × (out ≡ []) × (printed ≡ lines))
     → ((x : Client) → found nat_cmp clients t ≡ Some x → Makes clients clients' t (row_of c t o x) out lines printed)

@@ -13,16 +13,16 @@ use Rattle.rc_ids.specs.declared.names.NodeId.TheVariants.{Coord}
 use Rattle.rc_body.specs.declared.entry.Entry.{Entry}
 use Rattle.rc_record.specs.declared.record.Record.{Record}
 use Rattle.rc_report.specs.declared.line.Line.{Line}
-use Rattle.rc_protocol.specs.Messages.{Sends}
+use Rattle.rc_protocol.specs.Messages.{Posts}
 use Rattle.rc_protocol.specs.Client.{Client}
 use Rattle.rc_protocol.specs.Coordinator.{CoordAct, CoordVolatile, coord_stays}
 use Rattle.rc_protocol.specs.Acts.{NodeCause, coord_act}
 use Rattle.rc_protocol.specs.Nodes.{CoordNode, coord_index, logged}
 use Rattle.rc_runs.specs.Votes.{ordered}
-use Rattle.rc_runs.specs.World.{Parties, Deed, Idle, ByCoord, Course, Goes, Stops, along, moved, sends_of, lines_of, with_coord, coord_at, by_coord, coord_does}
+use Rattle.rc_runs.specs.World.{Parties, Deed, Idle, ByCoord, Course, Goes, Stops, along, parties_after, sends_of, lines_of, with_coord, coord_at, by_coord, coord_does}
 use Rattle.rc_runs.specs.Refusals.{worn_out}
 use Rattle.rc_runs.specs.Devices.{Device, record_length, appended}
-use Rattle.rc_runs.specs.Session.{DiskWork, no_work, no_device, device_in, append_work}
+use Rattle.rc_runs.specs.Session.{DiskChange, no_change, no_device, device_in, append_change}
 use Rattle.rc_world.specs.Hosts.{CoordSite, ShardSite, coord_nodes, coord_devices, coord_left, course_for, device_for, record_left, sends_left, lines_left}
 use Rattle.rc_world.specs.Acted.{Housed, housed, disk_at, with_disk, deed_work, disks_after, Acted, Refuses, CoordDone, CoordDid, CoordIdle, Lacking}
 use Rattle.rc_world.specs.declared.fault.ActFault.{ActFault}
@@ -49,8 +49,8 @@ set_past (y ∷ xs) (suc i) x past = let past' : length xs ≤ i = omega arith i
 abbrev pub append_at : NodeId → Option Record → Option (NodeId × ℕ)
 append_at node logs = maybe logs None (λ r. Some (node, record_length r))
 
-abbrev pub work_at : Housed → NodeId → Option Record → DiskWork
-work_at h node logs = maybe (append_at node logs) no_work (λ a. append_work a.0 (appended (disk_at h a.0) a.1))
+abbrev pub work_at : Housed → NodeId → Option Record → DiskChange
+work_at h node logs = maybe (append_at node logs) no_change (λ a. append_change a.0 (appended (disk_at h a.0) a.1))
 
 pub work_course : (h : Housed) (node : NodeId) (logs : Option Record) (x : Device) → disk_at h node ≡ x → (work_at h node logs).course ≡ course_for logs x
 work_course h node None x at = refl
@@ -62,34 +62,34 @@ work_disks h node None x y at same left = let e : x ≡ y = (cc) in ap Some (sym
 work_disks h node (Some r) x y at same left = rw at (rw left refl)
 
 -- IDLE PARTIES
-pub idle : (deed : Deed) → deed ≡ Idle → (h : Housed) (out : Sends) (lines printed : List Line) → out ≡ [] → printed ≡ lines → Acted deed (deed_work h deed) h h out lines printed
+pub idle : (deed : Deed) → deed ≡ Idle → (h : Housed) (out : Posts) (lines printed : List Line) → out ≡ [] → printed ≡ lines → Acted deed (deed_work h deed) h h out lines printed
 idle deed is h out lines printed none same =
     subst (λ (d : Deed). Acted d (deed_work h d) h h out lines printed) (sym is)
     (record { parties = refl; disks = refl; sends = none; prints = same ∙ sym (append-nil lines); whole = refl })
 
 -- COORDINATORS
-abbrev act_of : Option Record → CoordVolatile → Sends → Bool → CoordAct
+abbrev act_of : Option Record → CoordVolatile → Posts → Bool → CoordAct
 act_of logs after sends spent = record { logs = logs; after = after; sends = sends; spent = spent }
 
-along_parties : (p : Parties) (d : ℕ) (x : CoordNode) (k : Course) (logs : Option Record) (after : CoordVolatile) (sends : Sends) (spent : Bool)
-    → moved p (along k (ByCoord d x (act_of logs after sends spent))) ≡ with_coord p d (coord_left k x (act_of logs after sends spent)) (record_left k logs)
+along_parties : (p : Parties) (d : ℕ) (x : CoordNode) (k : Course) (logs : Option Record) (after : CoordVolatile) (sends : Posts) (spent : Bool)
+    → parties_after p (along k (ByCoord d x (act_of logs after sends spent))) ≡ with_coord p d (coord_left k x (act_of logs after sends spent)) (record_left k logs)
 along_parties p d x Goes logs after sends spent = refl
 along_parties p d x (Stops kept) None after sends spent = refl
 along_parties p d x (Stops kept) (Some r) after sends spent = refl
 
-along_sends : (d : ℕ) (x : CoordNode) (k : Course) (logs : Option Record) (after : CoordVolatile) (sends : Sends) (spent : Bool)
+along_sends : (d : ℕ) (x : CoordNode) (k : Course) (logs : Option Record) (after : CoordVolatile) (sends : Posts) (spent : Bool)
     → sends_of (along k (ByCoord d x (act_of logs after sends spent))) ≡ sends_left k logs sends
 along_sends d x Goes logs after sends spent = refl
 along_sends d x (Stops kept) None after sends spent = refl
 along_sends d x (Stops kept) (Some r) after sends spent = refl
 
-along_lines : (d : ℕ) (x : CoordNode) (k : Course) (logs : Option Record) (after : CoordVolatile) (sends : Sends) (spent : Bool)
+along_lines : (d : ℕ) (x : CoordNode) (k : Course) (logs : Option Record) (after : CoordVolatile) (sends : Posts) (spent : Bool)
     → lines_of (along k (ByCoord d x (act_of logs after sends spent))) ≡ lines_left (Coord d) k logs
 along_lines d x Goes logs after sends spent = refl
 along_lines d x (Stops kept) None after sends spent = refl
 along_lines d x (Stops kept) (Some r) after sends spent = refl
 
-along_whole : (d : ℕ) (x : CoordNode) (k : Course) (logs : Option Record) (after : CoordVolatile) (sends : Sends) (spent : Bool) → spent ≡ false
+along_whole : (d : ℕ) (x : CoordNode) (k : Course) (logs : Option Record) (after : CoordVolatile) (sends : Posts) (spent : Bool) → spent ≡ false
     → worn_out (along k (ByCoord d x (act_of logs after sends spent))) ≡ None
 along_whole d x Goes logs after sends spent is = rw is refl
 along_whole d x (Stops kept) None after sends spent is = rw is refl
@@ -121,7 +121,7 @@ coord_same_disk c cs ss clients committed d h at =
     set_same (coord_devices cs) (coord_index d) h.device (slice_get-map (λ (s : CoordSite). s.device) cs (coord_index d) ∙ ap (option_map (λ (s : CoordSite). s.device)) at)
 
 pub coord_did : (c : Layout) (cs cs' : List CoordSite) (ss : List ShardSite) (clients : Table ℕ Client) (committed committed' : List (ℕ × List Entry)) (d : ℕ) (a : CoordAct) (h : CoordSite)
-    (out : Sends) (lines printed : List Line) → is_dc c d ≡ true → slice_get cs (coord_index d) ≡ Some h → CoordDid c d a h cs cs' committed committed' out lines printed
+    (out : Posts) (lines printed : List Line) → is_dc c d ≡ true → slice_get cs (coord_index d) ≡ Some h → CoordDid c d a h cs cs' committed committed' out lines printed
     → Acted (ByCoord d h.node a) (deed_work (housed c cs ss clients committed) (ByCoord d h.node a)) (housed c cs ss clients committed) (housed c cs' ss clients committed') out lines printed
 coord_did c cs cs' ss clients committed committed' d a h out lines printed inside at did =
     let k : Course = course_for a.logs h.device in
@@ -138,7 +138,7 @@ coord_did c cs cs' ss clients committed committed' d a h out lines printed insid
     did.committed ∙ ap (λ (xs : List CoordNode). ordered c xs [] committed (record_left k a.logs)) nodes in
     record {
       parties = ap (λ (xs : List CoordNode). with_coords old.parties xs committed') nodes ∙ ap (with_coords old.parties (slice_set (coord_nodes cs) (coord_index d) (coord_left k h.node a))) list
-          ∙ sym (along_parties old.parties d h.node k a.logs a.after a.sends a.spent) ∙ ap (λ (j : Course). moved old.parties (along j deed)) (sym went);
+          ∙ sym (along_parties old.parties d h.node k a.logs a.after a.sends a.spent) ∙ ap (λ (j : Course). parties_after old.parties (along j deed)) (sym went);
       disks = work_disks old (Coord d) a.logs h.device did.left.device disk same did.done.device ∙ ap Some (coord_disks old d did.left.device inside) ∙ ap (λ (xs : List Device). Some (xs, old.shards)) (sym devices);
       sends = did.done.sends ∙ sym (along_sends d h.node k a.logs a.after a.sends a.spent) ∙ ap (λ (j : Course). sends_of (along j deed)) (sym went);
       prints = did.done.prints ∙ ap (λ (ls : List Line). lines ++ ls) (sym (along_lines d h.node k a.logs a.after a.sends a.spent) ∙ ap (λ (j : Course). lines_of (along j deed)) (sym went));
@@ -146,7 +146,7 @@ coord_did c cs cs' ss clients committed committed' d a h out lines printed insid
     }
 
 -- A COORDINATOR AMONG ALL
-left_log : (k : Course) (x : CoordNode) (logs : Option Record) (after : CoordVolatile) (sends : Sends) (spent : Bool)
+left_log : (k : Course) (x : CoordNode) (logs : Option Record) (after : CoordVolatile) (sends : Posts) (spent : Bool)
     → (coord_left k x (act_of logs after sends spent)).log ≡ logged x.log (record_left k logs)
 left_log Goes x logs after sends spent = refl
 left_log (Stops kept) x None after sends spent = refl
@@ -157,7 +157,7 @@ get_set [] i x h = absurd (omega arith)
 get_set (y ∷ xs) zero x h = refl
 get_set (y ∷ xs) (suc i) x h = let h' : i < length xs = omega arith in get_set xs i x h'
 
-pub coord_collects : (c : Layout) (d : ℕ) (a : CoordAct) (h left : CoordSite) (cs cs' : List CoordSite) (committed committed' : List (ℕ × List Entry)) (out : Sends) (lines printed : List Line)
+pub coord_collects : (c : Layout) (d : ℕ) (a : CoordAct) (h left : CoordSite) (cs cs' : List CoordSite) (committed committed' : List (ℕ × List Entry)) (out : Posts) (lines printed : List Line)
     → CoordDone c d a h left out lines printed → cs' ≡ slice_set cs (coord_index d) left → coord_index d < length cs
     → ((x : CoordNode) (log : List Record) (l : Option Record) → slice_get (coord_nodes cs') (coord_index d) ≡ Some x → x.log ≡ logged log l → length log ≡ length h.node.log
     → committed' ≡ ordered c (coord_nodes cs') [] committed l)
@@ -172,7 +172,7 @@ coord_collects c d a h left cs cs' committed committed' out lines printed done s
     record { left = left; done = done; sites = sites; committed = noted left.node h.node.log (record_left k a.logs) at log refl }
 
 -- a coordinator that takes no part in the event is as it was
-coord_rests : (c : Layout) (d : ℕ) (h : CoordSite) (cs cs' : List CoordSite) (committed committed' : List (ℕ × List Entry)) (out : Sends) (lines printed : List Line) → slice_get cs (coord_index d) ≡ Some h
+coord_rests : (c : Layout) (d : ℕ) (h : CoordSite) (cs cs' : List CoordSite) (committed committed' : List (ℕ × List Entry)) (out : Posts) (lines printed : List Line) → slice_get cs (coord_index d) ≡ Some h
     → CoordDid c d (coord_stays h.node.volatile) h cs cs' committed committed' out lines printed → CoordIdle cs cs' committed committed' out lines printed
 coord_rests c d h cs cs' committed committed' out lines printed at did =
     let device : did.left.device ≡ h.device = let e : Some h.device ≡ Some did.left.device = did.done.device in cc in
@@ -184,11 +184,11 @@ coord_rests c d h cs cs' committed committed' out lines printed at did =
       prints = did.done.prints ∙ append-nil lines;
     }
 
-coord_idles : (c : Layout) (cs cs' : List CoordSite) (ss : List ShardSite) (clients : Table ℕ Client) (committed committed' : List (ℕ × List Entry)) (out : Sends) (lines printed : List Line)
-    → CoordIdle cs cs' committed committed' out lines printed → Acted Idle no_work (housed c cs ss clients committed) (housed c cs' ss clients committed') out lines printed
+coord_idles : (c : Layout) (cs cs' : List CoordSite) (ss : List ShardSite) (clients : Table ℕ Client) (committed committed' : List (ℕ × List Entry)) (out : Posts) (lines printed : List Line)
+    → CoordIdle cs cs' committed committed' out lines printed → Acted Idle no_change (housed c cs ss clients committed) (housed c cs' ss clients committed') out lines printed
 coord_idles c cs cs' ss clients committed committed' out lines printed i =
-    subst (λ (xs : List CoordSite). Acted Idle no_work (housed c cs ss clients committed) (housed c xs ss clients committed') out lines printed) (sym i.sites)
-    (subst (λ (ts : List (ℕ × List Entry)). Acted Idle no_work (housed c cs ss clients committed) (housed c cs ss clients ts) out lines printed) (sym i.committed)
+    subst (λ (xs : List CoordSite). Acted Idle no_change (housed c cs ss clients committed) (housed c xs ss clients committed') out lines printed) (sym i.sites)
+    (subst (λ (ts : List (ℕ × List Entry)). Acted Idle no_change (housed c cs ss clients committed) (housed c cs ss clients ts) out lines printed) (sym i.committed)
     (idle Idle refl (housed c cs ss clients committed) out lines printed i.sends i.prints))
 
 -- what the cause makes a coordinator do
@@ -196,7 +196,7 @@ abbrev part_of : Layout → ℕ → Option NodeCause → CoordNode → CoordAct
 part_of c d o x = maybe o (coord_stays x.volatile) (coord_act c d x.durable x.volatile)
 
 coord_deed : (c : Layout) (cs cs' : List CoordSite) (ss : List ShardSite) (clients : Table ℕ Client) (committed committed' : List (ℕ × List Entry)) (d : ℕ) (o : Option NodeCause)
-    (out : Sends) (lines printed : List Line) → is_dc c d ≡ true → coord_index d < length cs
+    (out : Posts) (lines printed : List Line) → is_dc c d ≡ true → coord_index d < length cs
     → ((h : CoordSite) → slice_get cs (coord_index d) ≡ Some h → h.node.up ≡ false → CoordIdle cs cs' committed committed' out lines printed)
     → ((h : CoordSite) → slice_get cs (coord_index d) ≡ Some h → h.node.up ≡ true → CoordDid c d (part_of c d o h.node) h cs cs' committed committed' out lines printed)
     → let deed = maybe o Idle (coord_does (housed c cs ss clients committed).parties d) in
@@ -208,7 +208,7 @@ coord_deed c cs cs' ss clients committed committed' d None out lines printed ins
     by_up h at false is = idles h at is
 
     by_site : (o : Option CoordSite) → slice_get cs (coord_index d) ≡ o
-        → Acted Idle no_work (housed c cs ss clients committed) (housed c cs' ss clients committed') out lines printed
+        → Acted Idle no_change (housed c cs ss clients committed) (housed c cs' ss clients committed') out lines printed
     by_site None at = absurd (within_some cs (coord_index d) within at)
     by_site (Some h) at = coord_idles c cs cs' ss clients committed committed' out lines printed (by_up h at h.node.up refl)
 coord_deed c cs cs' ss clients committed committed' d (Some cause) out lines printed inside within idles dids = by_site (slice_get cs (coord_index d)) refl
@@ -228,7 +228,7 @@ coord_deed c cs cs' ss clients committed committed' d (Some cause) out lines pri
     by_site (Some h) at = subst Goal (sym (deed_at h at)) (by_up h at h.node.up refl)
 
 pub coord_deed_at : (c : Layout) (cs cs' : List CoordSite) (ss : List ShardSite) (clients : Table ℕ Client) (committed committed' : List (ℕ × List Entry)) (q : Housed) (d : ℕ) (o : Option NodeCause)
-    (out : Sends) (lines printed : List Line) → housed c cs ss clients committed ≡ q → is_dc c d ≡ true → coord_index d < length cs
+    (out : Posts) (lines printed : List Line) → housed c cs ss clients committed ≡ q → is_dc c d ≡ true → coord_index d < length cs
     → ((h : CoordSite) → slice_get cs (coord_index d) ≡ Some h → h.node.up ≡ false → CoordIdle cs cs' committed committed' out lines printed)
     → ((h : CoordSite) → slice_get cs (coord_index d) ≡ Some h → h.node.up ≡ true → CoordDid c d (part_of c d o h.node) h cs cs' committed committed' out lines printed)
     → let deed = maybe o Idle (coord_does q.parties d) in Acted deed (deed_work q deed) q (housed c cs' ss clients committed') out lines printed
@@ -238,7 +238,7 @@ coord_deed_at c cs cs' ss clients committed committed' q d o out lines printed i
 
 -- nobody outside the world does anything
 pub coord_outside : (c : Layout) (cs : List CoordSite) (ss : List ShardSite) (clients : Table ℕ Client) (committed : List (ℕ × List Entry)) (q : Housed) (d : ℕ) (o : Option NodeCause)
-    (out : Sends) (lines : List Line) → housed c cs ss clients committed ≡ q → is_dc c d ≡ false → out ≡ []
+    (out : Posts) (lines : List Line) → housed c cs ss clients committed ≡ q → is_dc c d ≡ false → out ≡ []
     → let deed = maybe o Idle (coord_does q.parties d) in Acted deed (deed_work q deed) q q out lines lines
 coord_outside c cs ss clients committed q d o out lines is outside none =
     subst (λ (r : Housed). let deed = maybe o Idle (coord_does r.parties d) in Acted deed (deed_work r deed) r r out lines lines) is
@@ -249,7 +249,7 @@ coord_outside c cs ss clients committed q d o out lines is outside none =
     nobody (Some cause) =
         ap (λ (b : Bool). let o : Option CoordNode = if b then slice_get (coord_nodes cs) (coord_index d) else None in maybe o Idle (λ x. if x.up then by_coord c d x cause else Idle)) outside
 
-coord_lacks : (d : ℕ) (x : CoordNode) (k : Course) (logs : Option Record) (after : CoordVolatile) (sends : Sends) (spent : Bool) → spent ≡ true → logs ≡ None
+coord_lacks : (d : ℕ) (x : CoordNode) (k : Course) (logs : Option Record) (after : CoordVolatile) (sends : Posts) (spent : Bool) → spent ≡ true → logs ≡ None
     → worn_out (along k (ByCoord d x (act_of logs after sends spent))) ≡ Some Ballots
 coord_lacks d x Goes logs after sends spent is none = rw is refl
 coord_lacks d x (Stops kept) None after sends spent is none = rw is refl

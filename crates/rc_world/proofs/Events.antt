@@ -8,10 +8,10 @@ use Rattle.rc_msg.specs.declared.msg.Envelope.{Envelope}
 use Rattle.rc_report.specs.declared.line.Line.{Line}
 use Rattle.rc_runs.specs.declared.event.Event.{Event}
 use Rattle.rc_runs.specs.declared.event.Event.TheVariants.{Begin, Read, Write, Commit, Cancel, Retry, Vanish, Take, Catch, Deliver, Lose, Crash, CrashAt, Restart}
-use Rattle.rc_protocol.specs.Messages.{Sends}
-use Rattle.rc_runs.specs.World.{Parties, Deed, Idle, deed, along, moved, lines_of, received, message, joined, starts, sends_of}
+use Rattle.rc_protocol.specs.Messages.{Posts}
+use Rattle.rc_runs.specs.World.{Parties, Deed, Idle, deed, along, parties_after, lines_of, received, message, after_begin, restart_lines, sends_of}
 use Rattle.rc_runs.specs.Refusals.{worn_out}
-use Rattle.rc_runs.specs.Session.{Session, DiskWork, disk_work}
+use Rattle.rc_runs.specs.Session.{Session, DiskChange, disk_change}
 use Rattle.rc_world.specs.Networks.{Network}
 use Rattle.rc_world.specs.Acted.{Housed, deed_work, does_by, disks_after, Acted}
 use Rattle.rc_world.specs.Sessions.{session_of, acts, actor_if_any, EventActed}
@@ -44,31 +44,31 @@ acting_deed p sent (Crash node) from is who = cc
 acting_deed p sent (CrashAt node k pick) from is who = cc
 acting_deed p sent (Restart node) from is who = cc
 
-acting_joined : (p : Parties) (e : Event) → acts e ≡ true → joined p e ≡ p
+acting_joined : (p : Parties) (e : Event) → acts e ≡ true → after_begin p e ≡ p
 acting_joined p (Begin t) is = cc
 acting_joined p _ is = refl
 
-acting_starts : (e : Event) → acts e ≡ true → starts e ≡ []
+acting_starts : (e : Event) → acts e ≡ true → restart_lines e ≡ []
 acting_starts (Restart node) is = cc
 acting_starts _ is = refl
 
-acting_work : (h : Housed) (n : Network) (e : Event) → acts e ≡ true → disk_work (session_of h n 0 0) e ≡ deed_work h (deed h.parties n.sent e)
+acting_work : (h : Housed) (n : Network) (e : Event) → acts e ≡ true → disk_change (session_of h n 0 0) e ≡ deed_work h (deed h.parties n.sent e)
 acting_work h n (Crash node) is = cc
 acting_work h n (CrashAt node k pick) is = cc
 acting_work h n (Restart node) is = cc
 acting_work h n _ is = refl
 
-pub acting_acted : (h h' : Housed) (n : Network) (e : Event) (from : Party) (out : Sends) (own : List Line) → acts e ≡ true → actor_if_any n.sent e ≡ Some from
+pub acting_acted : (h h' : Housed) (n : Network) (e : Event) (from : Party) (out : Posts) (own : List Line) → acts e ≡ true → actor_if_any n.sent e ≡ Some from
     → Acted (does_by h.parties n.sent e from) (deed_work h (does_by h.parties n.sent e from)) h h' out [] own → EventActed h h' n e out own
 acting_acted h h' n e from out own is who acted =
     let z : Session = session_of h n 0 0 in
     let d : Deed = deed h.parties n.sent e in
     let a : Acted d (deed_work h d) h h' out [] own = subst (λ (x : Deed). Acted x (deed_work h x) h h' out [] own) (sym (acting_deed h.parties n.sent e from is who)) acted in
-    let w : deed_work h d ≡ disk_work z e = sym (acting_work h n e is) in
+    let w : deed_work h d ≡ disk_change z e = sym (acting_work h n e is) in
     record {
-      parties = a.parties ∙ ap (λ (k : DiskWork). moved h.parties (along k.course d)) w ∙ ap (λ (p : Parties). moved p (along (disk_work z e).course d)) (sym (acting_joined h.parties e is));
+      parties = a.parties ∙ ap (λ (k : DiskChange). parties_after h.parties (along k.course d)) w ∙ ap (λ (p : Parties). parties_after p (along (disk_change z e).course d)) (sym (acting_joined h.parties e is));
       disks = ap (disks_after h) (sym w) ∙ a.disks;
-      sends = a.sends ∙ ap (λ (k : DiskWork). sends_of (along k.course d)) w;
-      prints = a.prints ∙ ap (λ (k : DiskWork). lines_of (along k.course d)) w ∙ ap (λ (ls : List Line). ls ++ lines_of (along (disk_work z e).course d)) (sym (acting_starts e is));
-      whole = ap (λ (k : DiskWork). worn_out (along k.course d)) (sym w) ∙ a.whole;
+      sends = a.sends ∙ ap (λ (k : DiskChange). sends_of (along k.course d)) w;
+      prints = a.prints ∙ ap (λ (k : DiskChange). lines_of (along k.course d)) w ∙ ap (λ (ls : List Line). ls ++ lines_of (along (disk_change z e).course d)) (sym (acting_starts e is));
+      whole = ap (λ (k : DiskChange). worn_out (along k.course d)) (sym w) ∙ a.whole;
     }

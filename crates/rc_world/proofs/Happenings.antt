@@ -15,12 +15,12 @@ use Rattle.rc_report.specs.declared.fault.Wrong.TheVariants.{NotSent}
 use Rattle.rc_runs.specs.declared.event.Event.{Event}
 use Rattle.rc_runs.specs.declared.event.Event.TheVariants.{Begin, Read, Write, Commit, Cancel, Retry, Vanish, Take, Catch, Deliver, Lose, Crash, CrashAt, Restart}
 use Rattle.rc_ids.specs.Cluster.{is_dc}
-use Rattle.rc_protocol.specs.Messages.{Sends, client_of}
+use Rattle.rc_protocol.specs.Messages.{Posts, client_of}
 use Rattle.rc_protocol.specs.Nodes.{coord_index, shard_index}
 use Rattle.rc_runs.specs.World.{Parties, Deed, Course, is_shard_of, actor, message, envelopes, bytes_of, numbers_after, deed, course_deed, printed, sends_of, step, still_pending, delivered_after}
 use Rattle.rc_runs.specs.Refusals.{wrong, limit, worn_out, too_much_sent, begins, most_transactions, most_events}
 use Rattle.rc_runs.specs.Devices.{Device}
-use Rattle.rc_runs.specs.Session.{Session, Halt, Misnamed, Limited, FarmFails, DiskWork, disk_work, after_work, may_do, does, prints, happens, with_world, with_text, text_bytes, most_text_bytes}
+use Rattle.rc_runs.specs.Session.{Session, Halt, Misnamed, Limited, FarmFails, DiskChange, disk_change, with_change, happens_within_limits, happens_with, prints, happens, with_world, with_text, text_bytes, most_text_bytes}
 use Rattle.rc_world.specs.Networks.{Network, posted, passed, too_much, numbers_of}
 use Rattle.rc_world.specs.Acted.{Housed, disks_after}
 use Rattle.rc_world.specs.Sessions.{session_of, actor_if_any, EventActed, Stepped, late_limit, network_of, early_limit, Halts, SendRefused, Overprints, ActRefused, fault_of_act, fault_of_limit}
@@ -30,11 +30,11 @@ use Rattle.rc_world.specs.declared.fault.LimitFault.{LimitFault}
 use Rattle.rc_world.specs.declared.fault.LimitFault.TheVariants.{NoMemory as LimitNoMemory, Limit as AtLimit}
 
 -- MESSAGES
-numbered : (n : ℕ) (from : Party) (ms : Sends) → numbers_of n (envelopes from ms) ≡ numbers_after n ms
+numbered : (n : ℕ) (from : Party) (ms : Posts) → numbers_of n (envelopes from ms) ≡ numbers_after n ms
 numbered n from [] = refl
 numbered n from (m ∷ ms) = ap (λ (ks : List ℕ). suc n ∷ ks) (numbered (suc n) from ms)
 
-counted : (from : Party) (ms : Sends) → length (envelopes from ms) ≡ length ms
+counted : (from : Party) (ms : Posts) → length (envelopes from ms) ≡ length ms
 counted from [] = refl
 counted from (m ∷ ms) = ap suc (counted from ms)
 
@@ -60,46 +60,46 @@ acts_as sent (CrashAt node k pick) from is = cc
 acts_as sent (Restart node) from is = cc
 
 -- A STEP
-limit_same : (n : Network) (from : Party) (ms : Sends) → too_much n (length (envelopes from ms)) (bytes_of (envelopes from ms)) ≡ too_much n (length ms) (bytes_of (envelopes from ms))
+limit_same : (n : Network) (from : Party) (ms : Posts) → too_much n (length (envelopes from ms)) (bytes_of (envelopes from ms)) ≡ too_much n (length ms) (bytes_of (envelopes from ms))
 limit_same n from ms = ap (λ (count : ℕ). too_much n count (bytes_of (envelopes from ms))) (counted from ms)
 
-sent_same : (n : Network) (e : Event) (from : Party) (ms : Sends) → posted (passed n e) (envelopes from ms) (bytes_of (envelopes from ms))
+sent_same : (n : Network) (e : Event) (from : Party) (ms : Posts) → posted (passed n e) (envelopes from ms) (bytes_of (envelopes from ms))
     ≡ record { sent = n.sent ++ envelopes from ms; bytes = n.bytes + bytes_of (envelopes from ms); pending = still_pending n.pending e ++ numbers_after (length n.sent) ms; delivered = delivered_after n.delivered e }
 sent_same n e from ms =
     ap (λ (ks : List ℕ). let m : Network = record { sent = n.sent ++ envelopes from ms; bytes = n.bytes + bytes_of (envelopes from ms); pending = still_pending n.pending e ++ ks; delivered = delivered_after n.delivered e } in m)
     (numbered (length n.sent) from ms)
 
 abbrev event_deed : Housed → Network → Event → Deed
-event_deed h n e = course_deed (session_of h n 0 0).world e (disk_work (session_of h n 0 0) e).course
+event_deed h n e = course_deed (session_of h n 0 0).world e (disk_change (session_of h n 0 0) e).course
 
-late_by : (h : Housed) (n : Network) (e : Event) (from : Party) (out : Sends) → out ≡ sends_of (event_deed h n e) → from ≡ actor n.sent e → worn_out (event_deed h n e) ≡ None
+late_by : (h : Housed) (n : Network) (e : Event) (from : Party) (out : Posts) → out ≡ sends_of (event_deed h n e) → from ≡ actor n.sent e → worn_out (event_deed h n e) ≡ None
     → late_limit h n e ≡ too_much n (length (envelopes from out)) (bytes_of (envelopes from out))
 late_by h n e from out sends who whole =
     ap (λ (o : Option Which). maybe o (too_much_sent (session_of h n 0 0).world e (event_deed h n e)) Some) whole
-    ∙ sym (limit_same n from out ∙ ap (λ (ms : Sends). too_much n (length ms) (bytes_of (envelopes from ms))) sends ∙ ap (λ (p : Party). too_much n (length (sends_of (event_deed h n e))) (bytes_of (envelopes p (sends_of (event_deed h n e))))) who)
+    ∙ sym (limit_same n from out ∙ ap (λ (ms : Posts). too_much n (length ms) (bytes_of (envelopes from ms))) sends ∙ ap (λ (p : Party). too_much n (length (sends_of (event_deed h n e))) (bytes_of (envelopes p (sends_of (event_deed h n e))))) who)
 
-pub stepped_by_act : (h h' : Housed) (n n' : Network) (e : Event) (from : Party) (out : Sends) (own : List Line) → EventActed h h' n e out own → actor_if_any n.sent e ≡ Some from
+pub stepped_by_act : (h h' : Housed) (n n' : Network) (e : Event) (from : Party) (out : Posts) (own : List Line) → EventActed h h' n e out own → actor_if_any n.sent e ≡ Some from
     → too_much n (length (envelopes from out)) (bytes_of (envelopes from out)) ≡ None → n' ≡ posted (passed n e) (envelopes from out) (bytes_of (envelopes from out)) → Stepped h h' n n' e own
 stepped_by_act h h' n n' e from out own acted who fits after =
     let is : from ≡ actor n.sent e = acts_as n.sent e from who in
-    let net : Sends → Party → Network = λ ms p. record { sent = n.sent ++ envelopes p ms; bytes = n.bytes + bytes_of (envelopes p ms); pending = still_pending n.pending e ++ numbers_after (length n.sent) ms; delivered = delivered_after n.delivered e } in
+    let net : Posts → Party → Network = λ ms p. record { sent = n.sent ++ envelopes p ms; bytes = n.bytes + bytes_of (envelopes p ms); pending = still_pending n.pending e ++ numbers_after (length n.sent) ms; delivered = delivered_after n.delivered e } in
     record {
       parties = acted.parties;
       disks = acted.disks;
-      network = after ∙ sent_same n e from out ∙ ap (λ (ms : Sends). net ms from) acted.sends ∙ ap (net (sends_of (event_deed h n e))) is;
+      network = after ∙ sent_same n e from out ∙ ap (λ (ms : Posts). net ms from) acted.sends ∙ ap (net (sends_of (event_deed h n e))) is;
       prints = acted.prints;
       fits = late_by h n e from out acted.sends is acted.whole ∙ fits;
     }
 
-pub step_refused : (h h' : Housed) (n : Network) (e : Event) (from : Party) (out : Sends) (own : List Line) (f : LimitFault) → EventActed h h' n e out own → actor_if_any n.sent e ≡ Some from
+pub step_refused : (h h' : Housed) (n : Network) (e : Event) (from : Party) (out : Posts) (own : List Line) (f : LimitFault) → EventActed h h' n e out own → actor_if_any n.sent e ≡ Some from
     → SendRefused f (too_much n (length (envelopes from out)) (bytes_of (envelopes from out))) → SendRefused f (late_limit h n e)
 step_refused h h' n e from out own LimitNoMemory acted who refused = tt
 step_refused h h' n e from out own (AtLimit which) acted who refused = late_by h n e from out acted.sends (acts_as n.sent e from who) acted.whole ∙ refused
 
 pub act_refused : (h : Housed) (n : Network) (e : Event) (f : ActFault) → ActRefused f (deed h.parties n.sent e) → SendRefused (fault_of_act f) (late_limit h n e)
 act_refused h n e ActNoMemory refused = tt
-act_refused h n e VersionSpent refused = ap (λ (o : Option Which). maybe o (too_much_sent (session_of h n 0 0).world e (event_deed h n e)) Some) (refused (disk_work (session_of h n 0 0) e).course)
-act_refused h n e BallotsSpent refused = ap (λ (o : Option Which). maybe o (too_much_sent (session_of h n 0 0).world e (event_deed h n e)) Some) (refused (disk_work (session_of h n 0 0) e).course)
+act_refused h n e VersionSpent refused = ap (λ (o : Option Which). maybe o (too_much_sent (session_of h n 0 0).world e (event_deed h n e)) Some) (refused (disk_change (session_of h n 0 0) e).course)
+act_refused h n e BallotsSpent refused = ap (λ (o : Option Which). maybe o (too_much_sent (session_of h n 0 0).world e (event_deed h n e)) Some) (refused (disk_change (session_of h n 0 0) e).course)
 
 -- A LOSS
 loses : (h : Housed) (n : Network) (e : Event) → actor_if_any n.sent e ≡ None → wrong (session_of h n 0 0).world e ≡ None → (k : ℕ) × (e ≡ Lose k)
@@ -151,7 +151,7 @@ both_disks z x y cs ss is = ap (λ (u : List Device). let a : Option Session = S
 
 worked : (h : Housed) (n : Network) (events text : ℕ) (course : Course) (node : Option NodeId) (device : Option Device) (cs ss : List Device)
     → disks_after h (record { course = course; node = node; device = device }) ≡ Some (cs, ss)
-    → after_work (session_of h n events text) (record { course = course; node = node; device = device }) ≡ Some (with_disks (session_of h n events text) cs ss)
+    → with_change (session_of h n events text) (record { course = course; node = node; device = device }) ≡ Some (with_disks (session_of h n events text) cs ss)
 worked h n events text course None device cs ss is = both_disks (session_of h n events text) h.coords h.shards cs ss (disk_first _ _ cs ss is)
 worked h n events text course (Some node) None cs ss is = cc
 worked h n events text course (Some (Coord d)) (Some x) cs ss is = by_test (is_dc h.parties.layout d) is
@@ -178,23 +178,23 @@ at_early false true rest which is = is
 at_early false false rest which is = cc
 
 limits : (h : Housed) (n : Network) (events text : ℕ) (e : Event) → early_limit e (length h.parties.clients) events ≡ None
-    → limit (session_of h n events text).world e (disk_work (session_of h n events text) e).course ≡ late_limit h n e
+    → limit (session_of h n events text).world e (disk_change (session_of h n events text) e).course ≡ late_limit h n e
 limits h n events text e early = past_early (begins e && nat_le most_transactions (length h.parties.clients)) (nat_le most_events events) (late_limit h n e) early
 
 pub happens_misnamed : (h : Housed) (n : Network) (events text : ℕ) (e : Event) (name : Wrong) → wrong (session_of h n 0 0).world e ≡ Some name → happens (session_of h n events text) e ≡ Err (Misnamed name)
 happens_misnamed h n events text e name is =
-    ap (λ (o : Option Wrong). maybe o (may_do (session_of h n events text) e (disk_work (session_of h n events text) e)) (λ name. Err (Misnamed name))) is
+    ap (λ (o : Option Wrong). maybe o (happens_within_limits (session_of h n events text) e (disk_change (session_of h n events text) e)) (λ name. Err (Misnamed name))) is
 
 to_limit : (h : Housed) (n : Network) (events text : ℕ) (e : Event) → wrong (session_of h n 0 0).world e ≡ None
-    → happens (session_of h n events text) e ≡ may_do (session_of h n events text) e (disk_work (session_of h n events text) e)
+    → happens (session_of h n events text) e ≡ happens_within_limits (session_of h n events text) e (disk_change (session_of h n events text) e)
 to_limit h n events text e is =
-    ap (λ (o : Option Wrong). maybe o (may_do (session_of h n events text) e (disk_work (session_of h n events text) e)) (λ name. Err (Misnamed name))) is
+    ap (λ (o : Option Wrong). maybe o (happens_within_limits (session_of h n events text) e (disk_change (session_of h n events text) e)) (λ name. Err (Misnamed name))) is
 
 limited : (h : Housed) (n : Network) (events text : ℕ) (e : Event) (which : Which) → wrong (session_of h n 0 0).world e ≡ None
-    → limit (session_of h n events text).world e (disk_work (session_of h n events text) e).course ≡ Some which → happens (session_of h n events text) e ≡ Err (Limited which)
+    → limit (session_of h n events text).world e (disk_change (session_of h n events text) e).course ≡ Some which → happens (session_of h n events text) e ≡ Err (Limited which)
 limited h n events text e which named is =
     let z : Session = session_of h n events text in
-    to_limit h n events text e named ∙ ap (λ (o : Option Which). maybe o (does z e (disk_work z e)) (λ which. Err (Limited which))) is
+    to_limit h n events text e named ∙ ap (λ (o : Option Which). maybe o (happens_with z e (disk_change z e)) (λ which. Err (Limited which))) is
 
 pub happens_early : (h : Housed) (n : Network) (events text : ℕ) (e : Event) (which : Which) → wrong (session_of h n 0 0).world e ≡ None
     → early_limit e (length h.parties.clients) events ≡ Some which → happens (session_of h n events text) e ≡ Err (Limited which)
@@ -211,11 +211,11 @@ to_print : (h h' : Housed) (n n' : Network) (events text : ℕ) (e : Event) (own
     → happens (session_of h n events text) e ≡ prints (session_of h' n' (events + 1) text) own
 to_print h h' n n' events text e own named early stepped =
     let z : Session = session_of h n events text in
-    let work : DiskWork = disk_work z e in
+    let work : DiskChange = disk_change z e in
     let after : Session = with_disks z h'.coords h'.shards in
     let end : Parties → Network → List Line → Session = λ p m ls. record { world = record { parties = p; sent = m.sent; bytes = m.bytes; pending = m.pending; delivered = m.delivered; events = events + 1 }; coords = h'.coords; shards = h'.shards; text = text } in
     to_limit h n events text e named
-    ∙ ap (λ (o : Option Which). maybe o (does z e work) (λ which. Err (Limited which))) (limits h n events text e early ∙ stepped.fits)
+    ∙ ap (λ (o : Option Which). maybe o (happens_with z e work) (λ which. Err (Limited which))) (limits h n events text e early ∙ stepped.fits)
     ∙ ap (λ (o : Option Session). maybe o (Err FarmFails) (λ y. prints (with_world y (step z.world e work.course)) (printed z.world e work.course))) (worked h n events text work.course work.node work.device h'.coords h'.shards stepped.disks)
     ∙ sym (ap (λ (p : Parties). prints (end p n' own) own) stepped.parties
     ∙ ap (λ (m : Network). prints (end (step z.world e work.course).parties m own) own) stepped.network

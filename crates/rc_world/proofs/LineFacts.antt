@@ -9,9 +9,9 @@ use Rattle.rc_report.specs.declared.fault.Which.TheVariants.{Events}
 use Rattle.rc_runs.specs.declared.event.Event.{Event}
 use Rattle.rc_runs.specs.declared.event.Event.TheVariants.{Deliver}
 use Rattle.rc_runs.specs.World.{World}
-use Rattle.rc_runs.specs.Session.{Session, Went, Halt, Limited, Misnamed, disk_work, happens, prints}
+use Rattle.rc_runs.specs.Session.{Session, Happened, Halt, Limited, Misnamed, disk_change, happens, prints}
 use Rattle.rc_runs.specs.Refusals.{Happening}
-use Rattle.rc_runs.specs.Script.{LineDone, line_done, then_line, then_trace, goes_on, by_event, by_lines, idle, oldest, steps, settles}
+use Rattle.rc_runs.specs.Script.{LineDone, line_done, then_line, then_trace, unless_halted, by_event, by_lines, idle, oldest, steps, settles}
 use Rattle.rc_world.specs.Networks as networks
 use Rattle.rc_world.specs.declared.fault.SessionFault.{SessionFault}
 use Rattle.rc_world.specs.declared.fault.SessionFault.TheVariants.{NoMemory, Naming, Limit}
@@ -19,25 +19,25 @@ use Rattle.rc_world.specs.Sessions.{Halts, Halted, Performed, Happened, Stay}
 use Rattle.rc_world.specs.Lines.{Did, Ended, Counts, Refuses}
 
 -- what went well, and what was refused
-pub did_went : (z : Session) (trace : List Happening) (went : Went) (after : Session) (own lines now : List Line) → went ≡ Ok (after, own) → now ≡ lines ++ own → Did (line_done z trace went) after lines now
+pub did_went : (z : Session) (trace : List Happening) (went : Happened) (after : Session) (own lines now : List Line) → went ≡ Ok (after, own) → now ≡ lines ++ own → Did (line_done z trace went) after lines now
 did_went z trace went after own lines now is printed =
     record {
-      after = ap (λ (w : Went). (line_done z trace w).after) is;
-      lines = ap (λ (w : Went). lines ++ (line_done z trace w).lines) is ∙ sym printed;
-      ends = ap (λ (w : Went). (line_done z trace w).halt) is;
+      after = ap (λ (w : Happened). (line_done z trace w).after) is;
+      lines = ap (λ (w : Happened). lines ++ (line_done z trace w).lines) is ∙ sym printed;
+      ends = ap (λ (w : Happened). (line_done z trace w).halt) is;
     }
 
-halted_at : (z : Session) (trace : List Happening) (went : Went) (halt : Halt) (lines now : List Line) → went ≡ Err halt → now ≡ lines → ((then_line lines (line_done z trace went)).lines ≡ now) × ((then_line lines (line_done z trace went)).halt ≡ Some halt)
+halted_at : (z : Session) (trace : List Happening) (went : Happened) (halt : Halt) (lines now : List Line) → went ≡ Err halt → now ≡ lines → ((then_line lines (line_done z trace went)).lines ≡ now) × ((then_line lines (line_done z trace went)).halt ≡ Some halt)
 halted_at z trace went halt lines now is stays =
-    (ap (λ (w : Went). lines ++ (line_done z trace w).lines) is ∙ append-nil lines ∙ sym stays, ap (λ (w : Went). (line_done z trace w).halt) is)
+    (ap (λ (w : Happened). lines ++ (line_done z trace w).lines) is ∙ append-nil lines ∙ sym stays, ap (λ (w : Happened). (line_done z trace w).halt) is)
 
-pub ended_went : (e : SessionFault) (z : Session) (trace : List Happening) (went : Went) (lines now : List Line) → Halts e went → Stay e lines now → Ended e (line_done z trace went) lines now
+pub ended_went : (e : SessionFault) (z : Session) (trace : List Happening) (went : Happened) (lines now : List Line) → Halts e went → Stay e lines now → Ended e (line_done z trace went) lines now
 ended_went NoMemory z trace went lines now halts stays = tt
 ended_went (Limit which) z trace went lines now halts stays = halted_at z trace went (Limited which) lines now halts stays
 ended_went (Naming name) z trace went lines now halts stays = halted_at z trace went (Misnamed name) lines now halts stays
 
 pub did_happen : (z : Session) (e : Event) (after : Session) (own lines now : List Line) → Happened (happens z e) after own lines now → Did (by_event z e) after lines now
-did_happen z e after own lines now went = did_went z ((e, (disk_work z e).course) ∷ []) (happens z e) after own lines now went.went_so went.prints
+did_happen z e after own lines now went = did_went z ((e, (disk_change z e).course) ∷ []) (happens z e) after own lines now went.went_so went.prints
 
 -- what a line did, but for its events
 abbrev pub bare : LineDone → LineDone
@@ -47,17 +47,17 @@ bare done = record done { trace = [] }
 behind : (L own : List Line) (trace : List Happening) (next : LineDone) → bare (then_line L (then_trace trace (then_line own next))) ≡ bare (then_line (L ++ own) next)
 behind L own trace next = ap (λ (ls : List Line). let done : LineDone = record { after = next.after; trace = []; lines = ls; halt = next.halt } in done) (sym (append_assoc L own next.lines))
 
-pub goes : (L : List Line) (done : LineDone) (next : Session → LineDone) (z : Session) (now : List Line) → Did done z L now → bare (then_line L (goes_on done next)) ≡ bare (then_line now (next z))
+pub goes : (L : List Line) (done : LineDone) (next : Session → LineDone) (z : Session) (now : List Line) → Did done z L now → bare (then_line L (unless_halted done next)) ≡ bare (then_line now (next z))
 goes L done next z now did =
     ap (λ (h : Option Halt). bare (then_line L (maybe h (then_trace done.trace (then_line done.lines (next done.after))) (λ halt. done)))) did.ends
     ∙ behind L done.lines done.trace (next done.after)
     ∙ ap (λ (ls : List Line). bare (then_line ls (next done.after))) did.lines
     ∙ ap (λ (y : Session). bare (then_line now (next y))) did.after
 
-stops_at : (done : LineDone) (next : Session → LineDone) (halt : Halt) → done.halt ≡ Some halt → goes_on done next ≡ done
+stops_at : (done : LineDone) (next : Session → LineDone) (halt : Halt) → done.halt ≡ Some halt → unless_halted done next ≡ done
 stops_at done next halt is = ap (λ (h : Option Halt). maybe h (then_trace done.trace (then_line done.lines (next done.after))) (λ halt. done)) is
 
-pub stops : (e : SessionFault) (L : List Line) (done : LineDone) (next : Session → LineDone) (now : List Line) → Ended e done L now → Ended e (goes_on done next) L now
+pub stops : (e : SessionFault) (L : List Line) (done : LineDone) (next : Session → LineDone) (now : List Line) → Ended e done L now → Ended e (unless_halted done next) L now
 stops NoMemory L done next now ended = tt
 stops (Limit which) L done next now ended = subst (λ (d : LineDone). Ended (Limit which) d L now) (sym (stops_at done next (Limited which) ended.1)) ended
 stops (Naming name) L done next now ended = subst (λ (d : LineDone). Ended (Naming name) d L now) (sym (stops_at done next (Misnamed name) ended.1)) ended
@@ -106,7 +106,7 @@ unfolding steps
 steps-none zero z is = refl
 steps-none (suc n) z is = rw is refl
 
-pub steps-some : (n : ℕ) (z : Session) (m : ℕ) → oldest z.world ≡ Some m → steps (suc n) z ≡ goes_on (by_event z (Deliver m)) (steps n)
+pub steps-some : (n : ℕ) (z : Session) (m : ℕ) → oldest z.world ≡ Some m → steps (suc n) z ≡ unless_halted (by_event z (Deliver m)) (steps n)
 unfolding steps
 steps-some n z m is = rw is refl
 
@@ -115,7 +115,7 @@ unfolding settles
 settles-none zero count z is = rw is refl
 settles-none (suc fuel) count z is = rw is refl
 
-pub settles-some : (fuel count : ℕ) (z : Session) (m : ℕ) → oldest z.world ≡ Some m → settles (suc fuel) count z ≡ goes_on (by_event z (Deliver m)) (settles fuel (count + 1))
+pub settles-some : (fuel count : ℕ) (z : Session) (m : ℕ) → oldest z.world ≡ Some m → settles (suc fuel) count z ≡ unless_halted (by_event z (Deliver m)) (settles fuel (count + 1))
 unfolding settles
 settles-some fuel count z m is = rw is refl
 

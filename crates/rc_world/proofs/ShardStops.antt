@@ -10,7 +10,7 @@ use Rattle.rc_ids.specs.declared.names.NodeId.TheVariants.{Shard as ShardServer}
 use Rattle.rc_body.specs.declared.entry.Entry.{Entry}
 use Rattle.rc_report.specs.declared.line.Line.{Line}
 use Rattle.rc_report.specs.declared.line.Line.TheVariants.{Stopped}
-use Rattle.rc_protocol.specs.Messages.{Sends}
+use Rattle.rc_protocol.specs.Messages.{Posts}
 use Rattle.rc_protocol.specs.Client.{Client}
 use Rattle.rc_protocol.specs.Acts.{Catches}
 use Rattle.rc_protocol.specs.Nodes.{ShardNode, shard_index, shard_started}
@@ -145,7 +145,7 @@ starts_at : (p : Parties) (d s : ℕ) → is_shard_of p.layout d s ≡ true
     → restarts p (ShardServer d s) ≡ maybe (slice_get p.shards (shard_index p.layout d s)) Idle (λ (x : ShardNode). by_shard p.layout d s (shard_started x.log) Catches)
 starts_at p d s is = rw is refl
 
-shard_start : (c : Layout) (cs : List CoordSite) (ss ss' : List ShardSite) (clients : Table ℕ Client) (committed : List (ℕ × List Entry)) (d s : ℕ) (h : ShardSite) (out : Sends) (lines : List Line)
+shard_start : (c : Layout) (cs : List CoordSite) (ss ss' : List ShardSite) (clients : Table ℕ Client) (committed : List (ℕ × List Entry)) (d s : ℕ) (h : ShardSite) (out : Posts) (lines : List Line)
     → is_shard_of c d s ≡ true → slice_get ss (shard_index c d s) ≡ Some h → ShardStarts d (shard_index c d s) h ss ss' out
     → Acted (restarts (housed c cs ss clients committed).parties (ShardServer d s)) (start_work (housed c cs ss clients committed) (ShardServer d s)) (housed c cs ss clients committed) (housed c cs ss' clients committed) out lines lines
 shard_start c cs ss ss' clients committed d s h out lines is_there at starts =
@@ -164,7 +164,7 @@ shard_start c cs ss ss' clients committed d s h out lines is_there at starts =
       whole = refl;
     })
 
-pub shard_start_at : (c : Layout) (cs : List CoordSite) (ss ss' : List ShardSite) (clients : Table ℕ Client) (committed : List (ℕ × List Entry)) (q : Housed) (d s : ℕ) (out : Sends) (lines : List Line)
+pub shard_start_at : (c : Layout) (cs : List CoordSite) (ss ss' : List ShardSite) (clients : Table ℕ Client) (committed : List (ℕ × List Entry)) (q : Housed) (d s : ℕ) (out : Posts) (lines : List Line)
     → housed c cs ss clients committed ≡ q → is_shard_of c d s ≡ true → shard_index c d s < length ss
     → ((h : ShardSite) → slice_get ss (shard_index c d s) ≡ Some h → ShardStarts d (shard_index c d s) h ss ss' out)
     → Acted (restarts q.parties (ShardServer d s)) (start_work q (ShardServer d s)) q (housed c cs ss' clients committed) out lines lines
@@ -180,7 +180,7 @@ shard_start_at c cs ss ss' clients committed q d s out lines is is_there within 
 abbrev same_disks : List Device → List Device → ℕ → Bool → List Device × List Device
 same_disks coords shards i b = if b then (coords, slice_set shards i no_device) else (coords, shards)
 
-pub shard_start_outside : (c : Layout) (cs : List CoordSite) (ss : List ShardSite) (clients : Table ℕ Client) (committed : List (ℕ × List Entry)) (q : Housed) (d s : ℕ) (out : Sends) (lines : List Line)
+pub shard_start_outside : (c : Layout) (cs : List CoordSite) (ss : List ShardSite) (clients : Table ℕ Client) (committed : List (ℕ × List Entry)) (q : Housed) (d s : ℕ) (out : Posts) (lines : List Line)
     → housed c cs ss clients committed ≡ q → (is_shard_of c d s ≡ true → length ss ≤ shard_index c d s) → out ≡ []
     → Acted (restarts q.parties (ShardServer d s)) (start_work q (ShardServer d s)) q q out lines lines
 shard_start_outside c cs ss clients committed q d s out lines is past none =

@@ -2,7 +2,7 @@
 use Rattle.std.proofs.Common.{◌≡◌, ℕ, ◌++◌, List, [], Some, get_or, refl, sym, ◌∙◌, ap}
 use Rattle.std.specs.Prelude.{slice_get, slice_set}
 use Rattle.rc_ids.specs.Cluster.{Layout}
-use Rattle.rc_protocol.specs.Messages.{Sends}
+use Rattle.rc_protocol.specs.Messages.{Posts}
 use Rattle.rc_protocol.specs.Coordinator.{do_catch as coord_catches, new_volatile as new_coord_volatile}
 use Rattle.rc_protocol.specs.Shard.{do_catch as shard_catches, new_volatile as new_shard_volatile}
 use Rattle.rc_protocol.specs.Nodes.{CoordNode, ShardNode, coord_index, coord_started, shard_started}
@@ -32,7 +32,7 @@ shard_edit ss i v left h f read node device at =
     let same : v ≡ h = taken ss i v h read at in
     ap (slice_set ss i) (shard_is left (f v).node (f v).device node device ∙ ap f same)
 
-pub coord_begins : (c : Layout) (d : ℕ) (cs : List CoordSite) (i : ℕ) (v left h : CoordSite) (none out : Sends) → i ≡ coord_index d → v ≡ get_or cs i v
+pub coord_begins : (c : Layout) (d : ℕ) (cs : List CoordSite) (i : ℕ) (v left h : CoordSite) (none out : Posts) → i ≡ coord_index d → v ≡ get_or cs i v
     → left.node ≡ coord_started v.node.log → opened_once v.device ≡ Some left.device → none ≡ [] → out ≡ none ++ (coord_catches c d new_coord_volatile).sends
     → slice_get cs (coord_index d) ≡ Some h → CoordStarts c d h cs (slice_set cs i left) out
 coord_begins c d cs i v left h none out place read node device empty sends at =
@@ -42,10 +42,10 @@ coord_begins c d cs i v left h none out place read node device empty sends at =
       node = node ∙ ap (λ (x : CoordSite). coord_started x.node.log) same;
       device = ap (λ (x : CoordSite). opened_once x.device) (sym same) ∙ device;
       sites = ap (λ (k : ℕ). slice_set cs k left) place;
-      sends = sends ∙ ap (λ (ms : Sends). ms ++ (coord_catches c d new_coord_volatile).sends) empty;
+      sends = sends ∙ ap (λ (ms : Posts). ms ++ (coord_catches c d new_coord_volatile).sends) empty;
     }
 
-pub shard_begins : (d : ℕ) (ss : List ShardSite) (i : ℕ) (v left h : ShardSite) (none out : Sends) → v ≡ get_or ss i v
+pub shard_begins : (d : ℕ) (ss : List ShardSite) (i : ℕ) (v left h : ShardSite) (none out : Posts) → v ≡ get_or ss i v
     → left.node ≡ shard_started v.node.log → opened_once v.device ≡ Some left.device → none ≡ [] → out ≡ none ++ (shard_catches d new_shard_volatile).sends
     → slice_get ss i ≡ Some h → ShardStarts d i h ss (slice_set ss i left) out
 shard_begins d ss i v left h none out read node device empty sends at =
@@ -55,5 +55,5 @@ shard_begins d ss i v left h none out read node device empty sends at =
       node = node ∙ ap (λ (x : ShardSite). shard_started x.node.log) same;
       device = ap (λ (x : ShardSite). opened_once x.device) (sym same) ∙ device;
       sites = refl;
-      sends = sends ∙ ap (λ (ms : Sends). ms ++ (shard_catches d new_shard_volatile).sends) empty;
+      sends = sends ∙ ap (λ (ms : Posts). ms ++ (shard_catches d new_shard_volatile).sends) empty;
     }

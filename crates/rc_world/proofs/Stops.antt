@@ -11,20 +11,20 @@ use Rattle.rc_ids.specs.declared.names.NodeId.TheVariants.{Coord}
 use Rattle.rc_body.specs.declared.entry.Entry.{Entry}
 use Rattle.rc_report.specs.declared.line.Line.{Line}
 use Rattle.rc_report.specs.declared.line.Line.TheVariants.{Stopped}
-use Rattle.rc_protocol.specs.Messages.{Sends}
+use Rattle.rc_protocol.specs.Messages.{Posts}
 use Rattle.rc_protocol.specs.Client.{Client}
 use Rattle.rc_protocol.specs.Acts.{Catches}
 use Rattle.rc_protocol.specs.Nodes.{CoordNode, coord_index, coord_started}
 use Rattle.rc_runs.specs.World.{Parties, Deed, Idle, CoordStops, by_coord, is_up, stops, restarts}
 use Rattle.rc_runs.specs.Devices.{Device, powered, armed, opened_once}
-use Rattle.rc_runs.specs.Session.{no_device, device_in, work_on}
+use Rattle.rc_runs.specs.Session.{no_device, device_in, change_on}
 use Rattle.rc_world.specs.Hosts.{CoordSite, ShardSite, coord_nodes, coord_devices}
 use Rattle.rc_world.specs.Acted.{Housed, housed, disk_at, with_disk, disks_after, Acted, stop_work, arm_work, start_work, stopped_coord, armed_coord, CoordStarts}
 use Rattle.rc_world.proofs.Deeds.{within_some, set_same, coord_here, coord_disk, coord_disks}
 
 -- a disk with which work leaves this one
-pub worked : (h : Housed) (node : NodeId) (o : Option Device) (y : Device) → o ≡ Some y → disks_after h (work_on node o) ≡ Some (with_disk h node y)
-worked h node o y is = ap (λ (p : Option Device). disks_after h (work_on node p)) is
+pub worked : (h : Housed) (node : NodeId) (o : Option Device) (y : Device) → o ≡ Some y → disks_after h (change_on node o) ≡ Some (with_disk h node y)
+worked h node o y is = ap (λ (p : Option Device). disks_after h (change_on node p)) is
 
 pub coord_there : (c : Layout) (cs : List CoordSite) (ss : List ShardSite) (clients : Table ℕ Client) (committed : List (ℕ × List Entry)) (q : Housed) (d : ℕ)
     → housed c cs ss clients committed ≡ q → is_up q.parties (Coord d) ≡ true → is_dc c d ≡ true
@@ -129,7 +129,7 @@ coord_arm_at c cs cs' ss clients committed q d k pick lines is inside within cut
     by_site (Some h) at = coord_arm c cs cs' ss clients committed d k pick h lines inside at (cuts h at)
 
 -- A START
-coord_start : (c : Layout) (cs cs' : List CoordSite) (ss : List ShardSite) (clients : Table ℕ Client) (committed : List (ℕ × List Entry)) (d : ℕ) (h : CoordSite) (out : Sends) (lines : List Line)
+coord_start : (c : Layout) (cs cs' : List CoordSite) (ss : List ShardSite) (clients : Table ℕ Client) (committed : List (ℕ × List Entry)) (d : ℕ) (h : CoordSite) (out : Posts) (lines : List Line)
     → is_dc c d ≡ true → slice_get cs (coord_index d) ≡ Some h → CoordStarts c d h cs cs' out
     → Acted (restarts (housed c cs ss clients committed).parties (Coord d)) (start_work (housed c cs ss clients committed) (Coord d)) (housed c cs ss clients committed) (housed c cs' ss clients committed) out lines lines
 coord_start c cs cs' ss clients committed d h out lines inside at starts =
@@ -147,7 +147,7 @@ coord_start c cs cs' ss clients committed d h out lines inside at starts =
       whole = refl;
     })
 
-pub coord_start_at : (c : Layout) (cs cs' : List CoordSite) (ss : List ShardSite) (clients : Table ℕ Client) (committed : List (ℕ × List Entry)) (q : Housed) (d : ℕ) (out : Sends) (lines : List Line)
+pub coord_start_at : (c : Layout) (cs cs' : List CoordSite) (ss : List ShardSite) (clients : Table ℕ Client) (committed : List (ℕ × List Entry)) (q : Housed) (d : ℕ) (out : Posts) (lines : List Line)
     → housed c cs ss clients committed ≡ q → is_dc c d ≡ true → coord_index d < length cs → ((h : CoordSite) → slice_get cs (coord_index d) ≡ Some h → CoordStarts c d h cs cs' out)
     → Acted (restarts q.parties (Coord d)) (start_work q (Coord d)) q (housed c cs' ss clients committed) out lines lines
 coord_start_at c cs cs' ss clients committed q d out lines is inside within starts =
@@ -159,7 +159,7 @@ coord_start_at c cs cs' ss clients committed q d out lines is inside within star
     by_site (Some h) at = coord_start c cs cs' ss clients committed d h out lines inside at (starts h at)
 
 -- a coordinator outside the world: nobody starts, and no disk changes
-pub coord_start_outside : (c : Layout) (cs : List CoordSite) (ss : List ShardSite) (clients : Table ℕ Client) (committed : List (ℕ × List Entry)) (q : Housed) (d : ℕ) (out : Sends) (lines : List Line)
+pub coord_start_outside : (c : Layout) (cs : List CoordSite) (ss : List ShardSite) (clients : Table ℕ Client) (committed : List (ℕ × List Entry)) (q : Housed) (d : ℕ) (out : Posts) (lines : List Line)
     → housed c cs ss clients committed ≡ q → is_dc c d ≡ false → out ≡ [] → Acted (restarts q.parties (Coord d)) (start_work q (Coord d)) q q out lines lines
 coord_start_outside c cs ss clients committed q d out lines is outside none =
     let old : Housed = housed c cs ss clients committed in

@@ -11,7 +11,7 @@ use Rattle.rc_report.specs.declared.fault.Wrong.{Wrong}
 use Rattle.rc_report.specs.declared.fault.Wrong.TheVariants.{NotBegun, Vanished}
 use Rattle.rc_runs.specs.declared.event.Event.{Event}
 use Rattle.rc_runs.specs.declared.event.Event.TheVariants.{Read, Write, Commit, Cancel, Deliver}
-use Rattle.rc_protocol.specs.Client.{Client, ClientAct, ClientRefusal, NotOpen, TooManyKeys, client_refuses, is_full, is_open, is_vanished}
+use Rattle.rc_protocol.specs.Client.{Client, ClientAct, ClientRefusal, NotOpen, TooManyKeys, client_refuses, is_out_of_slots, is_open, is_vanished}
 use Rattle.rc_protocol.specs.Acts.{ClientCause, Hears, Reads, Writes, Commits, Cancels, Retries, Vanishes, client_act, client_by_row, if_open, if_room, refusal}
 use Rattle.rc_runs.specs.World.{Parties, message}
 use Rattle.rc_runs.specs.Refusals.{name_of, named_wrongly, wrong, wrong_of}
@@ -31,8 +31,8 @@ is_open_of x o none = by_test (is_open x.phase) none
     by_test true none = refl
     by_test false none = cc
 
-pub has_room_of : (x : Client) (k : List ℕ) → if_open x (if_room x k) ≡ None → is_full x k ≡ false
-has_room_of x k none = by_test (is_open x.phase) (is_full x k) none
+pub has_room_of : (x : Client) (k : List ℕ) → if_open x (if_room x k) ≡ None → is_out_of_slots x k ≡ false
+has_room_of x k none = by_test (is_open x.phase) (is_out_of_slots x k) none
   where
     by_test : (b full : Bool) → cond b (cond full (Some TooManyKeys) None) (Some NotOpen) ≡ None → full ≡ false
     by_test true true none = cc
@@ -50,8 +50,8 @@ named_room t true none = cc
 named_room t false none = refl
 
 refusal_named : (x : Client) (t : ℕ) (cause : ClientCause) → maybe (refusal x cause) None (name_of t) ≡ None → refusal x cause ≡ None
-refusal_named x t (Reads k) none = named_test t (is_open x.phase) (if_room x k) (named_room t (is_full x k)) none
-refusal_named x t (Writes k value) none = named_test t (is_open x.phase) (if_room x k) (named_room t (is_full x k)) none
+refusal_named x t (Reads k) none = named_test t (is_open x.phase) (if_room x k) (named_room t (is_out_of_slots x k)) none
+refusal_named x t (Writes k value) none = named_test t (is_open x.phase) (if_room x k) (named_room t (is_out_of_slots x k)) none
 refusal_named x t Commits none = named_test t (is_open x.phase) None (λ _. refl) none
 refusal_named x t (Cancels k) none = named_test t (is_open x.phase) None (λ _. refl) none
 refusal_named x t _ none = refl

@@ -17,17 +17,17 @@ use Rattle.rc_plain_coord.specs.declared.fault.CoordFault.{CoordFault}
 use Rattle.rc_plain_coord.specs.declared.fault.CoordFault.TheVariants.{NoMemory as CoordNoMemory, BallotsSpent as CoordSpent}
 use Rattle.rc_runs.specs.declared.event.Event.{Event}
 use Rattle.rc_runs.specs.declared.event.Event.TheVariants.{Read, Write, Commit, Cancel, Retry, Vanish, Deliver}
-use Rattle.rc_protocol.specs.Messages.{Sends}
+use Rattle.rc_protocol.specs.Messages.{Posts}
 use Rattle.rc_protocol.specs.Client.{Client, ClientAct, client_stays, KeyWornOut as IsWornOut}
 use Rattle.rc_protocol.specs.Acts.{ClientCause, Hears, Reads, Writes, Commits, Cancels, Retries, Vanishes, client_by_row, refusal}
 use Rattle.rc_protocol.specs.Coordinator.{CoordAct, do_catch, new_volatile}
 use Rattle.rc_protocol.specs.Shard.{ShardAct, do_catch as shard_catches, new_volatile as new_shard_volatile}
 use Rattle.rc_protocol.specs.Nodes.{coord_index, shard_index, coord_started, shard_started, coord_stopped, shard_stopped}
 use Rattle.rc_runs.specs.Votes.{ordered}
-use Rattle.rc_runs.specs.World.{Parties, Deed, Idle, Course, along, moved, sends_of, lines_of, message, new_start, is_shard_of, coord_does, shard_does, client_does}
+use Rattle.rc_runs.specs.World.{Parties, Deed, Idle, Course, along, parties_after, sends_of, lines_of, message, new_start, is_shard_of, coord_does, shard_does, client_does}
 use Rattle.rc_runs.specs.Refusals.{worn_out}
 use Rattle.rc_runs.specs.Devices.{Device, appended, powered, opened_once, armed}
-use Rattle.rc_runs.specs.Session.{DiskWork, no_device, device_in, no_work, work_on, append_of, append_work}
+use Rattle.rc_runs.specs.Session.{DiskChange, no_device, device_in, no_change, change_on, append_of, append_change}
 use Rattle.rc_world.specs.declared.fault.ActFault.{ActFault}
 use Rattle.rc_world.specs.declared.fault.ActFault.TheVariants.{NoMemory, VersionSpent, BallotsSpent}
 use Rattle.rc_world.specs.Hosts.{CoordSite, ShardSite, coord_nodes, coord_devices, shard_nodes, shard_devices, node_cause, coord_left, shard_left, course_for, device_for, record_left, sends_left, lines_left}
@@ -63,15 +63,15 @@ with_disk h (Coord d) x = if is_dc h.parties.layout d then (slice_set h.coords (
 with_disk h (ShardServer d s) x = if is_shard_of h.parties.layout d s then (h.coords, slice_set h.shards (shard_index h.parties.layout d s) x) else (h.coords, h.shards)
 
 -- what the deed asks of a disk
-abbrev pub deed_work : Housed → Deed → DiskWork
-deed_work h deed = maybe (append_of deed) no_work (λ a. append_work a.0 (appended (disk_at h a.0) a.1))
+abbrev pub deed_work : Housed → Deed → DiskChange
+deed_work h deed = maybe (append_of deed) no_change (λ a. append_change a.0 (appended (disk_at h a.0) a.1))
 
-abbrev pub disks_after : Housed → DiskWork → Option (List Device × List Device)
+abbrev pub disks_after : Housed → DiskChange → Option (List Device × List Device)
 disks_after h work = maybe work.node (Some (h.coords, h.shards)) (λ node. maybe work.device None (λ x. Some (with_disk h node x)))
 
 -- the deed was done as its append went: parties and disks are as after it, and so is what was sent and printed
-pub record Acted (deed : Deed) (work : DiskWork) (old new : Housed) (out : Sends) (lines printed : List Line) : Type 0 where
-  pub parties : new.parties ≡ moved old.parties (along work.course deed)
+pub record Acted (deed : Deed) (work : DiskChange) (old new : Housed) (out : Posts) (lines printed : List Line) : Type 0 where
+  pub parties : new.parties ≡ parties_after old.parties (along work.course deed)
   pub disks : disks_after old work ≡ Some (new.coords, new.shards)
   pub sends : out ≡ sends_of (along work.course deed)
   pub prints : printed ≡ lines ++ lines_of (along work.course deed)
@@ -85,7 +85,7 @@ Refuses BallotsSpent deed = (course : Course) → worn_out (along course deed) �
 
 -- NODES
 -- an act of a node at its disk
-pub record CoordDone (c : Layout) (d : ℕ) (act : CoordAct) (old new : CoordSite) (out : Sends) (lines printed : List Line) : Type 0 where
+pub record CoordDone (c : Layout) (d : ℕ) (act : CoordAct) (old new : CoordSite) (out : Posts) (lines printed : List Line) : Type 0 where
   pub node : new.node ≡ coord_left (course_for act.logs old.device) old.node act
   pub device : device_for act.logs old.device ≡ Some new.device
   pub sends : out ≡ sends_left (course_for act.logs old.device) act.logs act.sends
@@ -93,14 +93,14 @@ pub record CoordDone (c : Layout) (d : ℕ) (act : CoordAct) (old new : CoordSit
   pub whole : act.spent ≡ false
 
 -- among all coordinators
-pub record CoordDid (c : Layout) (d : ℕ) (act : CoordAct) (site : CoordSite) (old new : List CoordSite) (before after : List (ℕ × List Entry)) (out : Sends) (lines printed : List Line) : Type 0 where
+pub record CoordDid (c : Layout) (d : ℕ) (act : CoordAct) (site : CoordSite) (old new : List CoordSite) (before after : List (ℕ × List Entry)) (out : Posts) (lines printed : List Line) : Type 0 where
   pub left : CoordSite
   pub done : CoordDone c d act site left out lines printed
   pub sites : new ≡ slice_set old (coord_index d) left
   pub committed : after ≡ ordered c (coord_nodes new) [] before (record_left (course_for act.logs site.device) act.logs)
 
 -- a coordinator that is not up
-pub record CoordIdle (old new : List CoordSite) (before after : List (ℕ × List Entry)) (out : Sends) (lines printed : List Line) : Type 0 where
+pub record CoordIdle (old new : List CoordSite) (before after : List (ℕ × List Entry)) (out : Posts) (lines printed : List Line) : Type 0 where
   pub sites : new ≡ old
   pub committed : after ≡ before
   pub sends : out ≡ []
@@ -112,32 +112,32 @@ Lacking NoMemory act = Unit {0}
 Lacking BallotsSpent act = (act.spent ≡ true) × (act.logs ≡ None)
 Lacking VersionSpent act = ⊥
 
-pub record ShardDone (d s : ℕ) (act : ShardAct) (old new : ShardSite) (out : Sends) (lines printed : List Line) : Type 0 where
+pub record ShardDone (d s : ℕ) (act : ShardAct) (old new : ShardSite) (out : Posts) (lines printed : List Line) : Type 0 where
   pub node : new.node ≡ shard_left (course_for act.logs old.device) old.node act
   pub device : device_for act.logs old.device ≡ Some new.device
   pub sends : out ≡ sends_left (course_for act.logs old.device) act.logs act.sends
   pub prints : printed ≡ lines ++ lines_left (ShardServer d s) (course_for act.logs old.device) act.logs
 
-pub record ShardDid (d s place : ℕ) (act : ShardAct) (site : ShardSite) (old new : List ShardSite) (out : Sends) (lines printed : List Line) : Type 0 where
+pub record ShardDid (d s place : ℕ) (act : ShardAct) (site : ShardSite) (old new : List ShardSite) (out : Posts) (lines printed : List Line) : Type 0 where
   pub left : ShardSite
   pub done : ShardDone d s act site left out lines printed
   pub sites : new ≡ slice_set old place left
 
-pub record ShardIdle (old new : List ShardSite) (out : Sends) (lines printed : List Line) : Type 0 where
+pub record ShardIdle (old new : List ShardSite) (out : Posts) (lines printed : List Line) : Type 0 where
   pub sites : new ≡ old
   pub sends : out ≡ []
   pub prints : printed ≡ lines
 
 -- STOPS, ARMED CUTS AND STARTS
 -- what each asks of the node's disk
-abbrev pub stop_work : Housed → NodeId → DiskWork
-stop_work h node = work_on node (Some (powered (disk_at h node)))
+abbrev pub stop_work : Housed → NodeId → DiskChange
+stop_work h node = change_on node (Some (powered (disk_at h node)))
 
-abbrev pub arm_work : Housed → NodeId → ℕ → ℕ → DiskWork
-arm_work h node k pick = work_on node (Some (armed (disk_at h node) k pick))
+abbrev pub arm_work : Housed → NodeId → ℕ → ℕ → DiskChange
+arm_work h node k pick = change_on node (Some (armed (disk_at h node) k pick))
 
-abbrev pub start_work : Housed → NodeId → DiskWork
-start_work h node = work_on node (opened_once (disk_at h node))
+abbrev pub start_work : Housed → NodeId → DiskChange
+start_work h node = change_on node (opened_once (disk_at h node))
 
 -- what each leaves of the node with its disk
 abbrev pub stopped_coord : CoordSite → CoordSite
@@ -153,14 +153,14 @@ abbrev pub armed_shard : ℕ → ℕ → ShardSite → ShardSite
 armed_shard k pick x = record { node = x.node; device = armed x.device k pick }
 
 -- a coordinator started from its log, and asks the others for what it missed
-pub record CoordStarts (c : Layout) (d : ℕ) (site : CoordSite) (old new : List CoordSite) (out : Sends) : Type 0 where
+pub record CoordStarts (c : Layout) (d : ℕ) (site : CoordSite) (old new : List CoordSite) (out : Posts) : Type 0 where
   pub left : CoordSite
   pub node : left.node ≡ coord_started site.node.log
   pub device : opened_once site.device ≡ Some left.device
   pub sites : new ≡ slice_set old (coord_index d) left
   pub sends : out ≡ (do_catch c d new_volatile).sends
 
-pub record ShardStarts (d place : ℕ) (site : ShardSite) (old new : List ShardSite) (out : Sends) : Type 0 where
+pub record ShardStarts (d place : ℕ) (site : ShardSite) (old new : List ShardSite) (out : Posts) : Type 0 where
   pub left : ShardSite
   pub node : left.node ≡ shard_started site.node.log
   pub device : opened_once site.device ≡ Some left.device

@@ -28,4 +28,4 @@ nearer_by_append cut = option_map (λ (c : ℕ × ℕ). (c.0 - 4, c.1)) cut
 
 -- the disk on which the log was opened again after so many calls, with the gate at this place
 abbrev pub reopened : Device → ℕ → ℕ → Device
-reopened d calls place = record d { place = place; calls = d.calls + calls + 1; reads = d.reads + 1; cut = None; is_open = true }
+reopened d calls place = record d { offset = place; calls = d.calls + calls + 1; reads = d.reads + 1; cut = None; is_open = true }

@@ -11,7 +11,7 @@ use Rattle.rc_plain_coord.specs.declared.fault.CoordFault.{CoordFault}
 use Rattle.rc_plain_coord.specs.declared.fault.CoordFault.TheVariants.{NoMemory as CoordNoMemory, BallotsSpent}
 use Rattle.rc_runs.specs.declared.event.Event.{Event}
 use Rattle.rc_runs.specs.declared.event.Event.TheVariants.{Take, Catch, Deliver}
-use Rattle.rc_protocol.specs.Messages.{Sends}
+use Rattle.rc_protocol.specs.Messages.{Posts}
 use Rattle.rc_protocol.specs.Coordinator.{CoordAct, coord_stays}
 use Rattle.rc_protocol.specs.Shard.{ShardAct, shard_stays}
 use Rattle.rc_protocol.specs.Acts.{NodeCause, Came, Catches, Takes, coord_act, shard_act}
@@ -38,7 +38,7 @@ abbrev pub record_left : Course → Option Record → Option Record
 record_left Goes logs = logs
 record_left (Stops kept) logs = maybe logs None (kept_record kept)
 
-abbrev pub sends_left : Course → Option Record → Sends → Sends
+abbrev pub sends_left : Course → Option Record → Posts → Posts
 sends_left Goes logs sends = sends
 sends_left (Stops kept) logs sends = maybe logs sends (λ _. [])
 

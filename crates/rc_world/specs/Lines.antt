@@ -6,7 +6,7 @@ use Rattle.rc_msg.specs.declared.msg.Envelope.{Envelope}
 use Rattle.rc_report.specs.declared.line.Line.{Line}
 use Rattle.rc_report.specs.declared.line.Line.TheVariants.{Pending as PendingLine}
 use Rattle.rc_runs.specs.World.{message, is_shard_of}
-use Rattle.rc_runs.specs.Session.{Session, Went}
+use Rattle.rc_runs.specs.Session.{Session, Happened}
 use Rattle.rc_ids.specs.declared.names.NodeId.TheVariants.{Shard as ShardServer}
 use Rattle.rc_protocol.specs.Nodes.{ShardNode, shard_index}
 use Rattle.rc_protocol.specs.Shown.{row_lines}
@@ -23,11 +23,11 @@ abbrev pub Ended : SessionFault → LineDone → List Line → List Line → Typ
 Ended fault done before now = Halted fault (then_line before done) now
 
 -- the own lines were counted, or refused and taken away
-pub record Counts (went : Went) (session : Session) (own kept lines : List Line) : Type 0 where
+pub record Counts (went : Happened) (session : Session) (own kept lines : List Line) : Type 0 where
   pub went_so : went ≡ Ok (session, own)
   pub stays : lines ≡ kept
 
-pub record Refuses (fault : SessionFault) (went : Went) (kept lines : List Line) : Type 0 where
+pub record Refuses (fault : SessionFault) (went : Happened) (kept lines : List Line) : Type 0 where
   pub halts : Halts fault went
   pub stays : Stay fault kept lines
 

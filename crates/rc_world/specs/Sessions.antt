@@ -5,15 +5,15 @@ use Rattle.rc_runs.specs.declared.event.Event.{Event}
 use Rattle.rc_ids.specs.Tables.{maybe}
 use Rattle.rc_ids.specs.declared.names.Party.{Party}
 use Rattle.rc_msg.specs.declared.msg.Envelope.{Envelope}
-use Rattle.rc_protocol.specs.Messages.{Sends}
+use Rattle.rc_protocol.specs.Messages.{Posts}
 use Rattle.rc_runs.specs.Refusals.{worn_out, too_much_sent}
 use Rattle.rc_runs.specs.declared.event.Event.TheVariants.{Begin, Deliver, Lose, Crash, CrashAt, Restart}
-use Rattle.rc_runs.specs.World.{World, step, Deed, actor, message, moved, joined, sends_of, course_deed, printed as printed_by}
+use Rattle.rc_runs.specs.World.{World, step, Deed, actor, message, parties_after, after_begin, sends_of, course_deed, printed as printed_by}
 use Rattle.rc_runs.specs.Script.{LineDone}
 use Rattle.rc_report.specs.declared.fault.Which.{Which}
 use Rattle.rc_report.specs.declared.fault.Which.TheVariants.{Version, Ballots, Transactions, Events, TextBytes}
 use Rattle.rc_runs.specs.Refusals.{begins, most_transactions, most_events}
-use Rattle.rc_runs.specs.Session.{Session, Went, Halt, Misnamed, Limited, disk_work, most_text_bytes}
+use Rattle.rc_runs.specs.Session.{Session, Happened, Halt, Misnamed, Limited, disk_change, most_text_bytes}
 use Rattle.rc_world.specs.Networks.{Network}
 use Rattle.rc_world.specs.Acted.{Housed, Refuses, disks_after}
 use Rattle.rc_world.specs.declared.fault.ActFault.{ActFault}
@@ -52,10 +52,10 @@ pub record Performed (done : LineDone) (session : Session) (printed : List Line)
 
 -- the lines that the event prints on the session
 abbrev pub event_lines : Session → Event → List Line
-event_lines z e = printed_by z.world e (disk_work z e).course
+event_lines z e = printed_by z.world e (disk_change z e).course
 
 -- an event happened
-pub record Happened (went : Went) (session : Session) (own lines printed : List Line) : Type 0 where
+pub record Happened (went : Happened) (session : Session) (own lines printed : List Line) : Type 0 where
   pub went_so : went ≡ Ok (session, own)
   pub prints : printed ≡ lines ++ own
 
@@ -103,12 +103,12 @@ acts (Restart node) = false
 acts e = true
 
 -- parties and disks did what the event asks of them, this was sent, and this printed
-pub record EventActed (old new : Housed) (n : Network) (e : Event) (out : Sends) (own : List Line) : Type 0 where
-  pub parties : new.parties ≡ moved (joined old.parties e) (course_deed (session_of old n 0 0).world e (disk_work (session_of old n 0 0) e).course)
-  pub disks : disks_after old (disk_work (session_of old n 0 0) e) ≡ Some (new.coords, new.shards)
-  pub sends : out ≡ sends_of (course_deed (session_of old n 0 0).world e (disk_work (session_of old n 0 0) e).course)
-  pub prints : own ≡ printed_by (session_of old n 0 0).world e (disk_work (session_of old n 0 0) e).course
-  pub whole : worn_out (course_deed (session_of old n 0 0).world e (disk_work (session_of old n 0 0) e).course) ≡ None
+pub record EventActed (old new : Housed) (n : Network) (e : Event) (out : Posts) (own : List Line) : Type 0 where
+  pub parties : new.parties ≡ parties_after (after_begin old.parties e) (course_deed (session_of old n 0 0).world e (disk_change (session_of old n 0 0) e).course)
+  pub disks : disks_after old (disk_change (session_of old n 0 0) e) ≡ Some (new.coords, new.shards)
+  pub sends : out ≡ sends_of (course_deed (session_of old n 0 0).world e (disk_change (session_of old n 0 0) e).course)
+  pub prints : own ≡ printed_by (session_of old n 0 0).world e (disk_change (session_of old n 0 0) e).course
+  pub whole : worn_out (course_deed (session_of old n 0 0).world e (disk_change (session_of old n 0 0) e).course) ≡ None
 
 -- the deed of an event was refused: but for want of memory it is worn out
 abbrev pub ActRefused : ActFault → Deed → Type 0
@@ -117,7 +117,7 @@ ActRefused f deed = Refuses f deed
 -- the limit that an event passes with what it does
 abbrev pub late_limit : Housed → Network → Event → Option Which
 late_limit h n e =
-    let d = course_deed (session_of h n 0 0).world e (disk_work (session_of h n 0 0) e).course in
+    let d = course_deed (session_of h n 0 0).world e (disk_change (session_of h n 0 0) e).course in
     maybe (worn_out d) (too_much_sent (session_of h n 0 0).world e d) Some
 
 abbrev pub network_of : World → Network
@@ -125,8 +125,8 @@ network_of w = record { sent = w.sent; bytes = w.bytes; pending = w.pending; del
 
 -- parties, disks and network did what the event asks of them, and this was printed
 pub record Stepped (old new : Housed) (before after : Network) (e : Event) (own : List Line) : Type 0 where
-  pub parties : new.parties ≡ (step (session_of old before 0 0).world e (disk_work (session_of old before 0 0) e).course).parties
-  pub disks : disks_after old (disk_work (session_of old before 0 0) e) ≡ Some (new.coords, new.shards)
-  pub network : after ≡ network_of (step (session_of old before 0 0).world e (disk_work (session_of old before 0 0) e).course)
-  pub prints : own ≡ printed_by (session_of old before 0 0).world e (disk_work (session_of old before 0 0) e).course
+  pub parties : new.parties ≡ (step (session_of old before 0 0).world e (disk_change (session_of old before 0 0) e).course).parties
+  pub disks : disks_after old (disk_change (session_of old before 0 0) e) ≡ Some (new.coords, new.shards)
+  pub network : after ≡ network_of (step (session_of old before 0 0).world e (disk_change (session_of old before 0 0) e).course)
+  pub prints : own ≡ printed_by (session_of old before 0 0).world e (disk_change (session_of old before 0 0) e).course
   pub fits : late_limit old before e ≡ None

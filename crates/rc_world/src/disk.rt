@@ -44,7 +44,7 @@ impl Model for Disk {
 
     ghost Value = { Device };
 
-    ghost view = { λ d. record { place = d.place; calls = d.calls; reads = d.reads; failing = []; failing_reads = []; cut = d.cut; is_open = d.is_open } };
+    ghost view = { λ d. record { offset = d.place; calls = d.calls; reads = d.reads; failing = []; failing_reads = []; cut = d.cut; is_open = d.is_open } };
 
     ghost invariant = { λ d. (d.place ≤ 268435456) × (d.is_open ≡ false → d.cut ≡ None) };
 }

@@ -2,7 +2,7 @@ use Rattle.std.proofs.Common.{◌&&◌, ℕ, List, if◌then◌else◌, is_some,
 use Rattle.std.specs.Ordering.{nat_cmp}
 use Rattle.rc_ids.specs.Tables.{added}
 use Rattle.rc_ids.specs.Texts.{same_key}
-use Rattle.rc_body.specs.Entries.{seen}
+use Rattle.rc_body.specs.Entries.{entry_seen}
 use Rattle.rc_body.specs.declared.entry.Entry.{Entry}
 use Rattle.rc_locks.specs.Cells.{writers_at, readers_at}
 use Rattle.rc_locks.proofs.TakeFacts.{copied_some}
@@ -11,12 +11,12 @@ use Rattle.rc_locks.proofs.cells.hold.Goals as goal
 
 pub join_at-requires : goal.join_at-requires
 join_at-requires c =
-    let e : Entry = seen c.entry-entry.result in
+    let e : Entry = entry_seen c.entry-entry.result in
     c.loop-index.invariant.0 e.key (has_at c.args.part.now c.loop-index.index e c.entry-entry.ensures)
 
 pub loop-index-preserved : goal.loop-index-preserved
 loop-index-preserved c =
-    let e : Entry = seen c.entry-entry.result in
+    let e : Entry = entry_seen c.entry-entry.result in
     let t = c.args.tx in
     let written = sym c.is_some.ensures in (
       λ k has. c.join_at.ensures.rooms k (c.loop-index.invariant.0 k has),

@@ -1,7 +1,7 @@
 use Rattle.std.proofs.Common.{ap, ◌∙◌, arith}
 use Rattle.rc_ids.specs.Texts.{same_key}
 use Rattle.rc_body.specs.Bodies.{has_key}
-use Rattle.rc_body.specs.Entries.{seen}
+use Rattle.rc_body.specs.Entries.{entry_seen}
 use Rattle.rc_body.specs.declared.entry.Entry.{Entry}
 use Rattle.rc_locks.specs.Cells.{cell_at, HasRooms}
 use Rattle.rc_locks.proofs.Rest.{rest_end}
@@ -10,7 +10,7 @@ use Rattle.rc_locks.proofs.cells.make_room.Goals as goal
 
 pub loop-index-preserved : goal.loop-index-preserved
 loop-index-preserved c =
-    let e : Entry = seen c.entry-entry.result in (
+    let e : Entry = entry_seen c.entry-entry.result in (
       λ k. c.widen_at.ensures.writers k ∙ c.loop-index.invariant.0 k,
       λ k. c.widen_at.ensures.readers k ∙ c.loop-index.invariant.1 k,
       λ k t has rest. either_way (HasRooms t (cell_at c.widen_at.new.cells.entries k)) (same_key e.key k)

@@ -2,7 +2,7 @@ use Rattle.std.proofs.Common.{◌≡◌, ◌&&◌, ℕ, List, is_some, sym, subs
 use Rattle.rc_ids.specs.Tables.{found}
 use Rattle.rc_protocol.specs.Shard.{Mark, mark_cmp}
 use Rattle.rc_locks.specs.Flags.{IsTurned, turned_where, is_other_at, taken_away}
-use Rattle.rc_body.specs.Entries.{seen}
+use Rattle.rc_body.specs.Entries.{entry_seen}
 use Rattle.rc_body.specs.declared.entry.Entry.{Entry}
 use Rattle.rc_locks.proofs.FlagFacts.{txs_stay}
 use Rattle.rc_locks.proofs.TakeFacts.{part_on, part_done, copied_some}
@@ -10,7 +10,7 @@ use Rattle.rc_locks.proofs.flags.take_part.Goals as goal
 
 pub loop-index-preserved : goal.loop-index-preserved
 loop-index-preserved c =
-    let e : Entry = seen c.entry-entry.result in
+    let e : Entry = entry_seen c.entry-entry.result in
     let turned : IsTurned (λ (m : Mark). turned_where (c.is_some.result && is_other_at e.key c.args.taker m) taken_away) c.loop-index.locks.entries c.take_written.new.locks.entries =
     subst (λ (k : List ℕ). IsTurned (λ (m : Mark). turned_where (c.is_some.result && is_other_at k c.args.taker m) taken_away) c.loop-index.locks.entries c.take_written.new.locks.entries)
     c.new-key.ensures c.take_written.ensures.turned in (

@@ -2,7 +2,7 @@ use Rattle.std.proofs.Common.{◌≡◌, ℕ, ◌+◌, List, drop, is_some, sym,
 use Rattle.std.specs.Prelude.{if◌then◌else◌}
 use Rattle.rc_ids.specs.Tables.{added}
 use Rattle.rc_ids.specs.Texts.{key_cmp}
-use Rattle.rc_body.specs.Entries.{seen}
+use Rattle.rc_body.specs.Entries.{entry_seen}
 use Rattle.rc_body.specs.declared.entry.Entry.{Entry}
 use Rattle.rc_protocol.specs.Shown.{with_written}
 use Rattle.rc_plain_shard.proofs.Rest.{rest_at}
@@ -10,7 +10,7 @@ use Rattle.rc_plain_shard.proofs.shown.add_written.Goals as goal
 
 pub loop-index-preserved : goal.loop-index-preserved
 loop-index-preserved c =
-    let e : Entry = seen c.entry-entry.result in
+    let e : Entry = entry_seen c.entry-entry.result in
     let keys : List (List ℕ) = c.loop-index.keys.keys in
     let at = rest_at c.args.part.now c.loop-index.index e c.entry-entry.ensures in
     let before = sym (ap (λ (es : List Entry). with_written keys es) at) ∙ c.loop-index.invariant in

@@ -4,7 +4,7 @@ use Rattle.std.proofs.lemmas.List.{append-nil}
 use Rattle.rc_report.specs.declared.line.Line.TheVariants.{Settled}
 use Rattle.rc_report.specs.declared.fault.Which.TheVariants.{Events}
 use Rattle.rc_runs.specs.declared.event.Event.TheVariants.{Deliver}
-use Rattle.rc_runs.specs.Script.{LineDone, oldest, settles, then_line, by_event, by_lines, goes_on}
+use Rattle.rc_runs.specs.Script.{LineDone, oldest, settles, then_line, by_event, by_lines, unless_halted}
 use Rattle.rc_world.specs.declared.fault.SessionFault.TheVariants.{Limit}
 use Rattle.rc_world.specs.Lines.{Ended}
 use Rattle.rc_world.proofs.LineFacts.{bare, settles-none, settles-some, settles-end, goes, stops, ends_so, performs_so}
@@ -33,7 +33,7 @@ returns-in-Err-clause-ended c =
     let l = c.loop-count in
     let some : oldest l.session.world ≡ Some c.in-Some.number = (cc) in
     let fuel : suc (2000000 - (l.count + 1)) ≡ 2000000 - l.count = omega arith in
-    ends_so c.in-Err.fault _ (then_line l.lines (goes_on (by_event l.session (Deliver c.in-Some.number)) (settles (2000000 - (l.count + 1)) (l.count + 1)))) _
+    ends_so c.in-Err.fault _ (then_line l.lines (unless_halted (by_event l.session (Deliver c.in-Some.number)) (settles (2000000 - (l.count + 1)) (l.count + 1)))) _
     (sym (ap (λ (d : LineDone). bare (then_line l.lines d)) (settles-some (2000000 - (l.count + 1)) l.count l.session c.in-Some.number some))
     ∙ ap (λ (f : ℕ). bare (then_line l.lines (settles f l.count l.session))) fuel ∙ l.invariant)
     (stops c.in-Err.fault l.lines (by_event l.session (Deliver c.in-Some.number)) (settles (2000000 - (l.count + 1)) (l.count + 1)) _ c.in-Err.ensures.ended)

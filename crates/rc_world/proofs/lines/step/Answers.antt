@@ -1,6 +1,6 @@
 use Rattle.std.proofs.Common.{◌≡◌, ℕ, suc, ◌+◌, ◌-◌, None, Some, sym, ◌∙◌, ap, arith}
 use Rattle.rc_runs.specs.declared.event.Event.TheVariants.{Deliver}
-use Rattle.rc_runs.specs.Script.{LineDone, oldest, steps, then_line, by_event, idle, goes_on}
+use Rattle.rc_runs.specs.Script.{LineDone, oldest, steps, then_line, by_event, idle, unless_halted}
 use Rattle.rc_world.proofs.LineFacts.{bare, steps-zero, steps-none, steps-some, goes, stops, idles, ends_so, performs_so}
 use Rattle.rc_world.proofs.lines.step.Goals as goal
 
@@ -17,7 +17,7 @@ returns-in-Err-clause-ended c =
     let l = c.loop-taken in
     let some : oldest l.session.world ≡ Some c.in-Some.number = (cc) in
     let fuel : suc (c.args.count - (l.taken + 1)) ≡ c.args.count - l.taken = omega arith in
-    ends_so c.in-Err.fault _ (then_line l.lines (goes_on (by_event l.session (Deliver c.in-Some.number)) (steps (c.args.count - (l.taken + 1))))) _
+    ends_so c.in-Err.fault _ (then_line l.lines (unless_halted (by_event l.session (Deliver c.in-Some.number)) (steps (c.args.count - (l.taken + 1))))) _
     (sym (ap (λ (d : LineDone). bare (then_line l.lines d)) (steps-some (c.args.count - (l.taken + 1)) l.session c.in-Some.number some)) ∙ ap (λ (f : ℕ). bare (then_line l.lines (steps f l.session))) fuel ∙ l.invariant)
     (stops c.in-Err.fault l.lines (by_event l.session (Deliver c.in-Some.number)) (steps (c.args.count - (l.taken + 1))) _ c.in-Err.ensures.ended)
 

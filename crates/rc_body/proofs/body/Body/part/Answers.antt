@@ -2,7 +2,7 @@ use Rattle.std.proofs.Common.{◌==◌, ◌≤◌, Some, [], ◌∷◌, ◌++◌
 use Rattle.rc_ids.specs.Cluster.{shard_of}
 use Rattle.rc_ids.specs.Texts.{same_key}
 use Rattle.rc_body.specs.declared.entry.Entry.{Entry}
-use Rattle.rc_body.specs.Entries.{seen, wears_out}
+use Rattle.rc_body.specs.Entries.{entry_seen, wears_out}
 use Rattle.rc_body.specs.Bodies.{has_key, part}
 use Rattle.rc_body.proofs.Places.{none_passes, none_passes-filter, length-filter_le, filter-chosen, filter-skipped}
 use Rattle.std.proofs.lemmas.List.{length-take}
@@ -42,6 +42,6 @@ loop-index-preserved c =
       | else-eq w ↦
           w.parted-is ∙ c.loop-index.invariant
           ∙ sym (filter-skipped (λ e. shard_of c.args.cluster.now e.key == c.args.shard) c.args.self.now c.loop-index.index
-          (seen c.entry-entry.result) c.entry-entry.ensures
+          (entry_seen c.entry-entry.result) c.entry-entry.ensures
           (ap (λ s. s == c.args.shard) (sym c.shard_of.ensures.shard) ∙ sym w.if-eq.ensures))
     ]

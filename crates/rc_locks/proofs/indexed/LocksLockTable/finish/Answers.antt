@@ -49,7 +49,7 @@ returns-clause-after c =
     ∙ filter_alike (λ (m : Mark). not (free m)) (λ (m : Mark). not (is_free parts m)) (λ m. ap not (free_is parts c.remove_all.new.cells.entries c.remove_all.ensures.indexed m)) c.forget_all.new.waiting.items
     ∙ ap (filter (λ (m : Mark). not (is_free parts m))) c.forget_all.ensures.waiting
     ∙ ap (λ (ps : List (ℕ × List Entry)). filter (λ (m : Mark). not (is_free ps m)) gone) c.remove_all.ensures.parts in
-    λ i. record { parts = c.remove_all.ensures.parts i; marks = record { plain = plain i; lost = lost i; waiting = waiting i; place = 0 } }
+    λ i. record { parts = c.remove_all.ensures.parts i; marks = record { plain = plain i; lost = lost i; waiting = waiting i; cursor = 0 } }
 
 pub invariant_of-self : goal.invariant_of-self
 invariant_of-self c =

@@ -1,6 +1,6 @@
 use Rattle.std.proofs.Common.{◌≡◌, ◌+◌, List, [], ◌∷◌, ◌++◌, map, filter, drop, sym, ap, ◌∙◌}
 use Rattle.rc_record.specs.ShardState.{ShardDurable}
-use Rattle.rc_protocol.specs.Messages.{Sends}
+use Rattle.rc_protocol.specs.Messages.{Posts}
 use Rattle.rc_protocol.specs.Shard.{Mark, grant_of, is_free}
 use Rattle.rc_plain_shard.proofs.Rest.{item_at, sent_kept, sent_left}
 use Rattle.rc_plain_shard.proofs.waiting.Waiting.send_grants.Goals as goal
@@ -18,10 +18,10 @@ loop-mark-preserved c =
     let before = sym (ap (λ (ms : List Mark). c.loop-mark.out ++ map g (filter p ms)) at) ∙ c.loop-mark.invariant in
     elim c.if-is_free.branch [
       | then-is_free+in_ok-send_grant w ↦
-          ap (λ (out : Sends). out ++ map g (filter p rest))
+          ap (λ (out : Posts). out ++ map g (filter p rest))
           (w.out-is ∙ w.in_ok-send_grant.ensures ∙ ap (λ (s : ShardDurable). c.loop-mark.out ++ grant_of c.args.dc s.rows x ∷ []) c.durable.view_is)
           ∙ sym (sent_kept g p c.loop-mark.out rest x (free ∙ w.if-is_free.true)) ∙ before
       | else-is_free w ↦
-          ap (λ (out : Sends). out ++ map g (filter p rest)) w.out-is
+          ap (λ (out : Posts). out ++ map g (filter p rest)) w.out-is
           ∙ sym (sent_left g p c.loop-mark.out rest x (free ∙ w.if-is_free.false)) ∙ before
     ]

@@ -2,7 +2,7 @@ use Rattle.std.proofs.Common.{◌≡◌, ◌+◌, ℕ, Bor, List, ◌∷◌, Opt
 use Rattle.std.specs.Option.{option_copied}
 use Rattle.rc_ids.specs.Tables.{Table}
 use Rattle.rc_body.specs.Bodies.{KeysDiffer}
-use Rattle.rc_body.specs.Entries.{seen}
+use Rattle.rc_body.specs.Entries.{entry_seen}
 use Rattle.rc_body.specs.declared.entry.Entry.{Entry}
 use Rattle.rc_serial.specs.Versions.{entry_raised, body_raised, Agree}
 use Rattle.rc_serial.proofs.Rest.{rest_at, rest_apart, lasts}
@@ -16,12 +16,12 @@ is_some-copied (Some x) = refl
 
 pub raise-requires : goal.raise-requires
 raise-requires c =
-    lasts c.args.body.now c.loop-index.index (seen c.entry-entry.result) c.len-index-end.ensures.body.lasting c.entry-entry.ensures
+    lasts c.args.body.now c.loop-index.index (entry_seen c.entry-entry.result) c.len-index-end.ensures.body.lasting c.entry-entry.ensures
     (search rules)
 
 pub loop-index-preserved : goal.loop-index-preserved
 loop-index-preserved c =
-    let e : Entry = seen c.entry-entry.result in
+    let e : Entry = entry_seen c.entry-entry.result in
     let rest : List Entry = drop (c.loop-index.index + 1) c.args.body.now in
     let at = rest_at c.args.body.now c.loop-index.index e c.entry-entry.ensures in
     let before = sym (ap (λ (es : List Entry). body_raised c.loop-index.self es) at) ∙ c.loop-index.invariant.0 in
