@@ -1,7 +1,8 @@
 // The acceptor of one transaction.
 ghost use Rattle.std.specs.Prelude.{◌≡◌, ◌≤◌, nat_le, None};
 ghost use Rattle.std.specs.Option.{option_copied};
-ghost use Rattle.rc_ballots.specs.Acceptors.{new_acceptor, may_take, promised as promised_lem, accepting};
+ghost use Rattle.rc_ballots.specs.Acceptors.{new_acceptor, may_take, accepting};
+ghost use Rattle.rc_ballots.specs.Acceptors as acceptors;
 
 use rc_body::Decision;
 use rc_ids::Ballot;
@@ -51,7 +52,7 @@ impl Acceptor {
     /// Promises the ballot.
     pub fn promise(&mut self, ballot: Ballot)
         requires { self.old.promise ≤ ballot }
-        ensures { self.new ≡ promised_lem self.old ballot }
+        ensures { self.new ≡ acceptors.promised self.old ballot }
     {
         self.promise = ballot;
     }

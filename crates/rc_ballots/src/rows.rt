@@ -1,8 +1,9 @@
 // The standing at each ballot, in the order of the ballots, searched by halves.
 ghost use Rattle.std.specs.Prelude.{◌≡◌, ◌≤◌, ◌<◌, ◌+◌, length, true, false, None, is_some, slice_get, vec_len, vec_capacity, OnOk, OnErr, ◌-◌};
 ghost use Rattle.std.specs.Ordering.{nat_cmp};
-ghost use Rattle.rc_ids.specs.Tables.{found, put as put_lem};
-ghost use Rattle.rc_protocol.specs.Coordinator.{standing_at as standing_at_lem};
+ghost use Rattle.rc_ids.specs.Tables.{found};
+ghost use Rattle.rc_ids.specs.Tables as tables;
+ghost use Rattle.rc_protocol.specs.Coordinator as coordinator;
 ghost use Rattle.rc_ballots.specs.Tallies.{Rises, rank, held};
 
 use crate::Standing;
@@ -30,7 +31,7 @@ fn has_at(rows: &[Row], place: usize, ballot: Ballot) -> bool
 /// Who stands for commit and who for abort at the ballot.
 pub fn standing_at(rows: &[Row], ballot: Ballot) -> Standing
     requires { Rises rows.now }
-    ensures { result ≡ standing_at_lem rows.now ballot }
+    ensures { result ≡ coordinator.standing_at rows.now ballot }
 {
     let place = count_below(rows, ballot);
     if !has_at(rows, place, ballot) {
@@ -44,7 +45,7 @@ fn replace_at(rows: &mut [Row], place: usize, ballot: Ballot, standing: Standing
     requires rises { Rises rows.old }
     requires place { place ≡ rank ballot rows.old }
     requires there { is_some (held ballot (slice_get rows.old place)) ≡ true }
-    ensures rows { rows.new ≡ put_lem nat_cmp rows.old ballot standing }
+    ensures rows { rows.new ≡ tables.put nat_cmp rows.old ballot standing }
     ensures rise { Rises rows.new }
 {
     rows[place].1 = standing;
@@ -56,7 +57,7 @@ fn insert_at(rows: &mut Vec<Row>, place: usize, ballot: Ballot, standing: Standi
     requires rises { Rises rows.old.items }
     requires place { place ≡ rank ballot rows.old.items }
     requires absent { is_some (held ballot (slice_get rows.old.items place)) ≡ false }
-    ensures rows { rows.new.items ≡ put_lem nat_cmp rows.old.items ballot standing }
+    ensures rows { rows.new.items ≡ tables.put nat_cmp rows.old.items ballot standing }
     ensures rise { Rises rows.new.items }
     ensures len { vec_len rows.new ≡ vec_len rows.old + 1 }
     ensures capacity { vec_capacity rows.new ≡ vec_capacity rows.old }
@@ -68,7 +69,7 @@ fn insert_at(rows: &mut Vec<Row>, place: usize, ballot: Ballot, standing: Standi
 /// room for one more.
 pub fn put(rows: &mut Vec<Row>, ballot: Ballot, standing: Standing) -> Result<(), NoMemory>
     requires { Rises rows.old.items }
-    ensures ok { OnOk result (rows.new.items ≡ put_lem nat_cmp rows.old.items ballot standing) }
+    ensures ok { OnOk result (rows.new.items ≡ tables.put nat_cmp rows.old.items ballot standing) }
     ensures rise { Rises rows.new.items }
     ensures spare { vec_capacity rows.old - vec_len rows.old ≤ vec_capacity rows.new - vec_len rows.new + 1 }
     ensures err { OnErr result (rows.new.items ≡ rows.old.items) }

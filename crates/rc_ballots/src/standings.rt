@@ -1,7 +1,8 @@
 // Votes.
 ghost use Rattle.std.specs.Prelude.{◌≡◌, [], OnOk};
-ghost use Rattle.rc_protocol.specs.Coordinator.{nobody as nobody_lem, stands_for, standing_for, standing_at as standing_at_lem, counted, is_decided_by};
-ghost use Rattle.rc_ballots.specs.Tallies.{voting as voting_lem, voters as voters_lem};
+ghost use Rattle.rc_protocol.specs.Coordinator.{stands_for, standing_for, counted, is_decided_by};
+ghost use Rattle.rc_protocol.specs.Coordinator as coordinator;
+ghost use Rattle.rc_ballots.specs.Tallies as tallies;
 
 use rc_body::Decision;
 use rc_ids::{Ballot, Cluster, DcId, DcSet, NoMemory, Outcome};
@@ -29,7 +30,7 @@ impl Model for Standing {
 impl Standing {
     /// No votes.
     pub(crate) fn nobody() -> Standing
-        ensures { result ≡ nobody_lem }
+        ensures { result ≡ coordinator.nobody }
     {
         Standing {
             commits: DcSet::new(),
@@ -65,7 +66,7 @@ impl Standing {
 
     /// The standing with one more vote for the outcome.
     pub(crate) fn voting(self, outcome: Outcome, dc: DcId) -> Standing
-        ensures { result ≡ voting_lem self outcome dc }
+        ensures { result ≡ tallies.voting self outcome dc }
     {
         let Standing { commits, aborts } = self;
         match outcome {
@@ -82,7 +83,7 @@ impl Standing {
 
     /// Who voted for the outcome.
     pub(crate) fn voters_for(&self, outcome: Outcome) -> DcSet
-        ensures { result ≡ voters_lem self.now outcome }
+        ensures { result ≡ tallies.voters self.now outcome }
     {
         match outcome {
             Outcome::Commit => self.commits,
@@ -118,7 +119,7 @@ impl Standings {
     }
 
     fn standing_at(&self, ballot: Ballot) -> Standing
-        ensures { result ≡ standing_at_lem self.now ballot }
+        ensures { result ≡ coordinator.standing_at self.now ballot }
     {
         match self.map.get(&ballot) {
             Some(standing) => *standing,

@@ -5,7 +5,8 @@ ghost use Rattle.rc_body.specs.declared.decision.Decision.{Decision};
 ghost use Rattle.rc_ids.specs.Cluster.{Layout};
 ghost use Rattle.rc_ids.specs.Tables.{Table, found};
 ghost use Rattle.rc_protocol.specs.Coordinator.{Standing as Votes};
-ghost use Rattle.rc_ballots.specs.Tallies.{won as won_lem, won_by, counted_for, TallyLaws};
+ghost use Rattle.rc_ballots.specs.Tallies.{won_by, counted_for, TallyLaws};
+ghost use Rattle.rc_ballots.specs.Tallies as tallies;
 
 use crate::Standing;
 use crate::rows::{Row, put, standing_at};
@@ -33,7 +34,7 @@ impl Model for Tally {
 
 /// The outcome, where those that stand for it are a quorum.
 fn won(quorum: &Quorum, standing: &Standing, outcome: Outcome) -> Option<Outcome>
-    ensures { result ≡ won_lem quorum.now standing.now outcome }
+    ensures { result ≡ tallies.won quorum.now standing.now outcome }
 {
     if quorum.holds(standing.voters_for(outcome)) {
         return Some(outcome);

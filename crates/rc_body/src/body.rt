@@ -4,7 +4,8 @@ ghost use Rattle.std.specs.List.{list_any};
 ghost use Rattle.indexmap.specs.IndexMap.{keys};
 ghost use Rattle.rc_ids.specs.Cluster.{shard_of};
 ghost use Rattle.rc_body.specs.Entries.{entry_seen, wears_out};
-ghost use Rattle.rc_body.specs.Bodies.{has_key, part as part_lem, touches as touches_lem, IsBody};
+ghost use Rattle.rc_body.specs.Bodies.{has_key, IsBody};
+ghost use Rattle.rc_body.specs.Bodies as bodies;
 ghost use Rattle.rc_body.specs.declared.fault.BodyFault.TheVariants.{TooManyKeys, KeyWornOut};
 
 use crate::entry::Access;
@@ -137,7 +138,7 @@ impl Body {
 
     /// The entries with keys of a shard, in their order.
     pub fn part(&self, cluster: &Cluster, shard: ShardId) -> Result<Body, NoMemory>
-        ensures { IfOk result (λ b. b ≡ part_lem cluster.now shard self.now) }
+        ensures { IfOk result (λ b. b ≡ bodies.part cluster.now shard self.now) }
     {
         let mut parted = Body::new(*self.entries.allocator());
         for index in 0..self.len() {
@@ -151,7 +152,7 @@ impl Body {
 
     /// Whether a key is of the shard.
     pub fn touches(&self, cluster: &Cluster, shard: ShardId) -> bool
-        ensures { result ≡ touches_lem cluster.now self.now shard }
+        ensures { result ≡ bodies.touches cluster.now self.now shard }
     {
         any_of_shard(&self.entries, cluster, shard)
     }

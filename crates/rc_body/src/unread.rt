@@ -1,7 +1,8 @@
 // Readers that leave the bytes anywhere where they find nothing or have no memory.
 ghost use Rattle.std.specs.Prelude.{◌≡◌, ℕ, true, false, [], ◌∷◌, ◌++◌, IfOk, IfErr, OnOk};
 ghost use Rattle.rc_fields.specs.Formats.{Gives, Tells, tested_at, many_at, both_at};
-ghost use Rattle.rc_fields.specs.Names.{is_gone as is_gone_lem, is_value, key_at, value_at, tx_at};
+ghost use Rattle.rc_fields.specs.Names.{is_value, key_at, value_at, tx_at};
+ghost use Rattle.rc_fields.specs.Names as names;
 ghost use Rattle.rc_fields.specs.declared.fault.ReadFault.TheVariants.{NotThere};
 ghost use Rattle.rc_body.specs.Reading.{held_at, entry_at, is_body, body_at, decision_at, reason_at, report_at, is_page, page_at};
 
@@ -24,7 +25,7 @@ pub(crate) fn read_key(fields: &mut Fields<'_>) -> Option<Key>
 
 /// Whether the bytes stand for the gone value.
 fn is_gone(bytes: &[u8]) -> bool
-    ensures { result ≡ is_gone_lem bytes.now }
+    ensures { result ≡ names.is_gone bytes.now }
 {
     matches!(bytes, [0])
 }

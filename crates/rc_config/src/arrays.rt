@@ -3,7 +3,8 @@ ghost use Rattle.std.specs.Prelude.{◌≡◌, ◌≤◌, IfOk};
 ghost use Rattle.std.specs.Option.{option_map};
 ghost use Rattle.toml.specs.Data.{as_str};
 ghost use Rattle.toml.specs.View.{view, items_view};
-ghost use Rattle.rc_config.specs.Workload.{each, key_at as key_at_lem, number_at, operation_at as operation_at_lem, splits_at as splits_at_lem, weights_at as weights_at_lem, operations_at as operations_at_lem};
+ghost use Rattle.rc_config.specs.Workload.{each, number_at};
+ghost use Rattle.rc_config.specs.Workload as workload_spec;
 
 use crate::course::are_operations;
 use crate::operation::{Operation, Operations, operation_of};
@@ -15,7 +16,7 @@ use toml::Value;
 
 /// The keys that the items are, if all are keys.
 fn each_key(alloc: Global, items: &[Value]) -> Result<Option<Keys>, NoMemory>
-    ensures { IfOk result (λ found. found ≡ each key_at_lem (items_view items.now)) }
+    ensures { IfOk result (λ found. found ≡ each workload_spec.key_at (items_view items.now)) }
 {
     let mut keys = Keys::new(alloc);
     for item in items {
@@ -43,7 +44,7 @@ fn each_weight(alloc: Global, items: &[Value]) -> Result<Option<Vec<u8>>, NoMemo
 
 /// The operation that the value spells.
 fn operation_at(alloc: Global, value: &Value) -> Result<Option<Operation>, NoMemory>
-    ensures { IfOk result (λ found. found ≡ operation_at_lem (view value.now)) }
+    ensures { IfOk result (λ found. found ≡ workload_spec.operation_at (view value.now)) }
 {
     match value.as_str() {
         None => Ok(None),
@@ -53,7 +54,7 @@ fn operation_at(alloc: Global, value: &Value) -> Result<Option<Operation>, NoMem
 
 /// The operations that the items spell, if all spell one.
 fn each_operation(alloc: Global, items: &[Value]) -> Result<Option<Vec<Operation>>, NoMemory>
-    ensures { IfOk result (λ found. option_map (λ v. v.items) found ≡ each operation_at_lem (items_view items.now)) }
+    ensures { IfOk result (λ found. option_map (λ v. v.items) found ≡ each workload_spec.operation_at (items_view items.now)) }
 {
     let mut operations = Vec::new(alloc);
     for item in items {
@@ -67,7 +68,7 @@ fn each_operation(alloc: Global, items: &[Value]) -> Result<Option<Vec<Operation
 
 /// The split keys that the value is.
 pub(crate) fn splits_at(alloc: Global, value: &Value) -> Result<Option<Keys>, NoMemory>
-    ensures { IfOk result (λ found. found ≡ splits_at_lem (view value.now)) }
+    ensures { IfOk result (λ found. found ≡ workload_spec.splits_at (view value.now)) }
 {
     match items_in(value) {
         None => Ok(None),
@@ -77,7 +78,7 @@ pub(crate) fn splits_at(alloc: Global, value: &Value) -> Result<Option<Keys>, No
 
 /// The weights that the value is.
 pub(crate) fn weights_at(alloc: Global, value: &Value) -> Result<Option<Weights>, NoMemory>
-    ensures { IfOk result (λ found. found ≡ weights_at_lem (view value.now)) }
+    ensures { IfOk result (λ found. found ≡ workload_spec.weights_at (view value.now)) }
 {
     let Some(items) = items_in(value) else {
         return Ok(None);
@@ -90,7 +91,7 @@ pub(crate) fn weights_at(alloc: Global, value: &Value) -> Result<Option<Weights>
 
 /// The operations that the value is, if a client may have them.
 pub(crate) fn operations_at(alloc: Global, value: &Value) -> Result<Option<Operations>, NoMemory>
-    ensures { IfOk result (λ found. found ≡ operations_at_lem (view value.now)) }
+    ensures { IfOk result (λ found. found ≡ workload_spec.operations_at (view value.now)) }
 {
     let Some(items) = items_in(value) else {
         return Ok(None);

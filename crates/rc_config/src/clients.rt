@@ -2,7 +2,8 @@
 ghost use Rattle.std.specs.Prelude.{◌≡◌, ◌≤◌, length, IfOk};
 ghost use Rattle.std.specs.Option.{option_map};
 ghost use Rattle.toml.specs.View.{view, table_view, items_view};
-ghost use Rattle.rc_config.specs.Workload.{needed, each, operations_at as operations_at_lem, client_from as client_from_lem, client_at as client_at_lem, clients_at as clients_at_lem, have_other_txs as have_other_txs_lem, txs_differ as txs_differ_lem, are_clients as are_clients_lem};
+ghost use Rattle.rc_config.specs.Workload.{needed, each};
+ghost use Rattle.rc_config.specs.Workload as workload_spec;
 
 use crate::arrays::operations_at;
 use crate::operation::Operations;
@@ -14,7 +15,7 @@ use toml::{Table, Value};
 
 /// The operations at a key of the table.
 fn operations_in(alloc: Global, table: &Table, name: &str) -> Result<Option<Operations>, NoMemory>
-    ensures { IfOk result (λ found. found ≡ needed operations_at_lem name.now (table_view table.now)) }
+    ensures { IfOk result (λ found. found ≡ needed workload_spec.operations_at name.now (table_view table.now)) }
 {
     match member(table, name) {
         None => Ok(None),
@@ -24,7 +25,7 @@ fn operations_in(alloc: Global, table: &Table, name: &str) -> Result<Option<Oper
 
 /// The client that the table is.
 fn client_from(alloc: Global, table: &Table) -> Result<Option<ClientPlan>, NoMemory>
-    ensures { IfOk result (λ found. found ≡ client_from_lem (table_view table.now)) }
+    ensures { IfOk result (λ found. found ≡ workload_spec.client_from (table_view table.now)) }
 {
     let Some(number) = number_in_table(table, "tx", 1, u32::MAX) else {
         return Ok(None);
@@ -41,7 +42,7 @@ fn client_from(alloc: Global, table: &Table) -> Result<Option<ClientPlan>, NoMem
 
 /// The client that the value is.
 fn client_at(alloc: Global, value: &Value) -> Result<Option<ClientPlan>, NoMemory>
-    ensures { IfOk result (λ found. found ≡ client_at_lem (view value.now)) }
+    ensures { IfOk result (λ found. found ≡ workload_spec.client_at (view value.now)) }
 {
     match value.as_table() {
         None => Ok(None),
@@ -51,7 +52,7 @@ fn client_at(alloc: Global, value: &Value) -> Result<Option<ClientPlan>, NoMemor
 
 /// The clients that the items are, if all are clients.
 fn each_client(alloc: Global, items: &[Value]) -> Result<Option<Vec<ClientPlan>>, NoMemory>
-    ensures { IfOk result (λ found. option_map (λ v. v.items) found ≡ each client_at_lem (items_view items.now)) }
+    ensures { IfOk result (λ found. option_map (λ v. v.items) found ≡ each workload_spec.client_at (items_view items.now)) }
 {
     let mut clients = Vec::new(alloc);
     for item in items {
@@ -65,14 +66,14 @@ fn each_client(alloc: Global, items: &[Value]) -> Result<Option<Vec<ClientPlan>>
 
 /// Whether the clients have other transactions than this one.
 fn have_other_txs(tx: TxId, clients: &[ClientPlan]) -> bool
-    ensures { result ≡ have_other_txs_lem tx clients.now }
+    ensures { result ≡ workload_spec.have_other_txs tx clients.now }
 {
     clients.iter().all(|client| client.tx.0 != tx.0)
 }
 
 /// Whether no two clients have one transaction.
 fn txs_differ(clients: &[ClientPlan]) -> bool
-    ensures { result ≡ txs_differ_lem clients.now }
+    ensures { result ≡ workload_spec.txs_differ clients.now }
 {
     match clients {
         [] => true,
@@ -82,14 +83,14 @@ fn txs_differ(clients: &[ClientPlan]) -> bool
 
 /// Whether there are 1 to 32 clients, whose transactions differ.
 fn are_clients(clients: &[ClientPlan]) -> bool
-    ensures { result ≡ are_clients_lem clients.now }
+    ensures { result ≡ workload_spec.are_clients clients.now }
 {
     1 <= clients.len() && clients.len() <= 32 && txs_differ(clients)
 }
 
 /// The clients that the value is.
 pub(crate) fn clients_at(alloc: Global, value: &Value) -> Result<Option<ClientPlans>, NoMemory>
-    ensures { IfOk result (λ found. found ≡ clients_at_lem (view value.now)) }
+    ensures { IfOk result (λ found. found ≡ workload_spec.clients_at (view value.now)) }
 {
     let Some(items) = items_in(value) else {
         return Ok(None);

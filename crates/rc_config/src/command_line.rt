@@ -2,7 +2,7 @@
 ghost use Rattle.std.specs.Prelude.{◌≡◌, ◌≢◌, map, codes, true, Err, IfOk};
 ghost use Rattle.std.specs.Option.{option_map};
 ghost use Rattle.clap.specs.Words.{app_of, kind_of, first_of, matches_of, rows_of, found_of, subcommand_of, subcommand_rows_of, takes};
-ghost use Rattle.rc_config.specs.Program.{program as program_lem, pair_in as pair_in_lem, numbers_in as numbers_in_lem};
+ghost use Rattle.rc_config.specs.Program as program_spec;
 
 use crate::mode::WordsFault;
 use clap::error::ErrorKind;
@@ -11,7 +11,7 @@ use std::alloc::{AllocError, Global};
 
 /// The program.
 fn program<'a>(alloc: Global) -> Result<Command<'a>, AllocError>
-    ensures { IfOk result (λ c. app_of c ≡ program_lem) }
+    ensures { IfOk result (λ c. app_of c ≡ program_spec.program) }
 {
     let logs = Arg::new(alloc, "logs").long("logs");
     let number = Arg::new(alloc, "number").required(true);
@@ -36,9 +36,9 @@ fn fault_of(error: &Error) -> WordsFault
 
 /// What `clap` finds in the words.
 pub(crate) fn matches<'a>(alloc: Global, words: &'a [&'a str]) -> Result<ArgMatches<'a>, WordsFault>
-    ensures found { IfOk result (λ m. (rows_of (found_of m) ≡ matches_of program_lem (map (λ s. s.now) words.entry.now))
-        × (subcommand_rows_of m ≡ subcommand_of program_lem (map (λ s. s.now) words.entry.now))) }
-    ensures taken { takes program_lem (map (λ s. s.now) words.entry.now) ≡ true → result ≢ Err WordsFault.BadWords }
+    ensures found { IfOk result (λ m. (rows_of (found_of m) ≡ matches_of program_spec.program (map (λ s. s.now) words.entry.now))
+        × (subcommand_rows_of m ≡ subcommand_of program_spec.program (map (λ s. s.now) words.entry.now))) }
+    ensures taken { takes program_spec.program (map (λ s. s.now) words.entry.now) ≡ true → result ≢ Err WordsFault.BadWords }
 {
     match program(alloc)?.try_get_matches_from(words) {
         Ok(matches) => Ok(matches),
@@ -62,7 +62,7 @@ pub(crate) fn logs_in<'a>(matches: &ArgMatches<'a>) -> Option<&'a str>
 
 /// The two words of `generate`.
 fn pair_in<'a>(matches: &ArgMatches<'a>) -> Option<(&'a str, &'a str)>
-    ensures { option_map (λ p. (p.0.now, p.1.now)) result ≡ pair_in_lem (rows_of (found_of matches.now)) }
+    ensures { option_map (λ p. (p.0.now, p.1.now)) result ≡ program_spec.pair_in (rows_of (found_of matches.now)) }
 {
     let number = text_in(matches, "number")?;
     let size = text_in(matches, "size")?;
@@ -71,7 +71,7 @@ fn pair_in<'a>(matches: &ArgMatches<'a>) -> Option<(&'a str, &'a str)>
 
 /// The two words behind `generate`.
 pub(crate) fn numbers_in<'a>(matches: &ArgMatches<'a>) -> Option<(&'a str, &'a str)>
-    ensures { option_map (λ p. (p.0.now, p.1.now)) result ≡ numbers_in_lem (subcommand_rows_of matches.now) }
+    ensures { option_map (λ p. (p.0.now, p.1.now)) result ≡ program_spec.numbers_in (subcommand_rows_of matches.now) }
 {
     match matches.subcommand() {
         None => None,

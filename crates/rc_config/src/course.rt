@@ -3,7 +3,8 @@ ghost use Rattle.std.specs.Prelude.{◌≡◌, [], true, false, IfOk, OnOk, leng
 ghost use Rattle.std.specs.Option.{option_map};
 ghost use Rattle.rc_ids.specs.Tables.{added};
 ghost use Rattle.rc_ids.specs.Texts.{key_cmp};
-ghost use Rattle.rc_config.specs.Plans.{new_course, with_key, key_in as key_in_lem, keys_named as keys_named_lem, cancelled, course_with, course_after, may_follow as may_follow_lem, are_operations as are_operations_lem};
+ghost use Rattle.rc_config.specs.Plans.{new_course, with_key, cancelled, course_with, course_after};
+ghost use Rattle.rc_config.specs.Plans as plans;
 
 use crate::operation::Operation;
 use rc_ids::{Key, NoMemory};
@@ -84,7 +85,7 @@ impl Course {
 
 /// Whether each operation may stand where it stands.
 fn may_follow(alloc: Global, operations: &[Operation]) -> Result<bool, NoMemory>
-    ensures { IfOk result (λ may. may ≡ may_follow_lem new_course operations.now) }
+    ensures { IfOk result (λ may. may ≡ plans.may_follow new_course operations.now) }
 {
     let mut course = fresh(alloc);
     for operation in operations {
@@ -98,7 +99,7 @@ fn may_follow(alloc: Global, operations: &[Operation]) -> Result<bool, NoMemory>
 
 /// The key that the operation names.
 fn key_in(operation: &Operation) -> Option<&Key>
-    ensures { option_map (λ k. k.now) result ≡ key_in_lem operation.now }
+    ensures { option_map (λ k. k.now) result ≡ plans.key_in operation.now }
 {
     match operation {
         Operation::Read(key) | Operation::Write(key, _) | Operation::Cancel(key) => Some(key),
@@ -118,7 +119,7 @@ fn add_key(keys: &mut BTreeSet<Key>, key: Option<&Key>) -> Result<(), NoMemory>
 
 /// How many different keys the operations name.
 fn key_count(alloc: Global, operations: &[Operation]) -> Result<usize, NoMemory>
-    ensures { IfOk result (λ count. count ≡ length (keys_named_lem [] operations.now)) }
+    ensures { IfOk result (λ count. count ≡ length (plans.keys_named [] operations.now)) }
 {
     let mut keys = BTreeSet::new(alloc);
     for operation in operations {
@@ -129,7 +130,7 @@ fn key_count(alloc: Global, operations: &[Operation]) -> Result<usize, NoMemory>
 
 /// Whether a client may have these operations.
 pub(crate) fn are_operations(alloc: Global, operations: &[Operation]) -> Result<bool, NoMemory>
-    ensures { IfOk result (λ are. are ≡ are_operations_lem operations.now) }
+    ensures { IfOk result (λ are. are ≡ plans.are_operations operations.now) }
 {
     if key_count(alloc, operations)? > 32 {
         return Ok(false);

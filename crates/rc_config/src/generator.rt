@@ -1,7 +1,8 @@
 //! Scripts from a number.
 ghost use Rattle.std.specs.Prelude.{◌≡◌, ◌++◌, ◌+◌, ◌<◌, ◌≤◌, ◌^◌, length, IfOk, OnOk};
 ghost use Rattle.rc_script.specs.Grammar.{IsScript, commands_of};
-ghost use Rattle.rc_config.specs.Generator.{key_name, value_name, maybe_settle, lines_of, state_after, world_lines as world_lines_lem, generated};
+ghost use Rattle.rc_config.specs.Generator.{key_name, value_name, maybe_settle, lines_of, state_after, generated};
+ghost use Rattle.rc_config.specs.Generator as generator;
 
 use crate::draws::Draws;
 use crate::lines::Lines;
@@ -85,7 +86,7 @@ fn push_transaction(
 
 /// The lines that make the world.
 fn world_lines(alloc: Global) -> Result<Lines, NoMemory>
-    ensures { IfOk result (λ lines. lines ≡ world_lines_lem) }
+    ensures { IfOk result (λ lines. lines ≡ generator.world_lines) }
 {
     let mut lines = Lines::new(alloc);
     lines.push(Command::World {

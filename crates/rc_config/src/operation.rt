@@ -4,7 +4,7 @@ ghost use Rattle.std.specs.Option.{option_map};
 ghost use Rattle.std.specs.Str.{bytes_eq};
 ghost use Rattle.rc_ids.specs.Texts.{gone};
 ghost use Rattle.rc_script.specs.Words.{key_of};
-ghost use Rattle.rc_config.specs.Plans.{write_operation as write_of_lem, bare_operation as bare_operation_lem, operation_with as operation_with_lem, operation_of as operation_of_lem};
+ghost use Rattle.rc_config.specs.Plans as plans;
 
 use rc_ids::{Key, NoMemory, Val};
 use rc_script::words::{cut, key, val};
@@ -66,7 +66,7 @@ fn is_named(word: &[u8], name: &[u8]) -> bool
 
 /// A key, and behind it a value.
 fn write_of(alloc: Global, words: &[u8]) -> Result<Option<Operation>, NoMemory>
-    ensures { IfOk result (λ found. found ≡ write_of_lem words.now) }
+    ensures { IfOk result (λ found. found ≡ plans.write_operation words.now) }
 {
     let (key_word, text) = cut(words, b' ');
     let Some(key) = key(key_word) else {
@@ -90,7 +90,7 @@ fn delete_of(alloc: Global, word: &[u8]) -> Result<Option<Operation>, NoMemory>
 
 /// An operation of one word.
 fn bare_operation(word: &[u8]) -> Option<Operation>
-    ensures { result ≡ bare_operation_lem word.now }
+    ensures { result ≡ plans.bare_operation word.now }
 {
     if is_named(word, b"commit") {
         Some(Operation::Commit)
@@ -103,7 +103,7 @@ fn bare_operation(word: &[u8]) -> Option<Operation>
 
 /// An operation with words behind the first.
 fn operation_with(alloc: Global, word: &[u8], words: &[u8]) -> Result<Option<Operation>, NoMemory>
-    ensures { IfOk result (λ found. found ≡ operation_with_lem word.now words.now) }
+    ensures { IfOk result (λ found. found ≡ plans.operation_with word.now words.now) }
 {
     if is_named(word, b"read") {
         Ok(key(words).map(Operation::Read))
@@ -121,7 +121,7 @@ fn operation_with(alloc: Global, word: &[u8], words: &[u8]) -> Result<Option<Ope
 /// The operation that the text spells, with the forms of the script.
 #[tactic(auto, unfolding(crate::specs::Plans::operation_of))]
 pub(crate) fn operation_of(alloc: Global, text: &[u8]) -> Result<Option<Operation>, NoMemory>
-    ensures { IfOk result (λ found. found ≡ operation_of_lem text.now) }
+    ensures { IfOk result (λ found. found ≡ plans.operation_of text.now) }
 {
     let (word, others) = cut(text, b' ');
     match others {

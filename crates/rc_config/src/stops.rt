@@ -2,7 +2,8 @@
 ghost use Rattle.std.specs.Prelude.{◌≡◌, ◌≤◌, length, IfOk};
 ghost use Rattle.std.specs.Option.{option_map};
 ghost use Rattle.toml.specs.View.{view, table_view, items_view};
-ghost use Rattle.rc_config.specs.Workload.{needed, each, node_at as node_at_lem, stop_from as stop_from_lem, stop_at as stop_at_lem, stops_at as stops_at_lem, have_other_nodes as have_other_nodes_lem, nodes_differ as nodes_differ_lem, are_stops as are_stops_lem};
+ghost use Rattle.rc_config.specs.Workload.{needed, each};
+ghost use Rattle.rc_config.specs.Workload as workload_spec;
 
 use crate::plan::{StopPlan, StopPlans};
 use crate::toml_values::{
@@ -16,7 +17,7 @@ use toml::{Table, Value};
 fn node_in(dcs: u8, shards: u8, table: &Table, name: &str) -> Option<NodeId>
     requires dcs { dcs ≤ 7 }
     requires shards { shards ≤ 8 }
-    ensures { result ≡ needed (node_at_lem dcs shards) name.now (table_view table.now) }
+    ensures { result ≡ needed (workload_spec.node_at dcs shards) name.now (table_view table.now) }
 {
     node_at(dcs, shards, member(table, name)?)
 }
@@ -25,7 +26,7 @@ fn node_in(dcs: u8, shards: u8, table: &Table, name: &str) -> Option<NodeId>
 fn stop_from(dcs: u8, shards: u8, table: &Table) -> Option<StopPlan>
     requires dcs { dcs ≤ 7 }
     requires shards { shards ≤ 8 }
-    ensures { result ≡ stop_from_lem dcs shards (table_view table.now) }
+    ensures { result ≡ workload_spec.stop_from dcs shards (table_view table.now) }
 {
     let node = node_in(dcs, shards, table, "node")?;
     let call = number_in_table(table, "call", 1, 1_000)?;
@@ -40,7 +41,7 @@ fn stop_from(dcs: u8, shards: u8, table: &Table) -> Option<StopPlan>
 fn stop_at(dcs: u8, shards: u8, value: &Value) -> Option<StopPlan>
     requires dcs { dcs ≤ 7 }
     requires shards { shards ≤ 8 }
-    ensures { result ≡ stop_at_lem dcs shards (view value.now) }
+    ensures { result ≡ workload_spec.stop_at dcs shards (view value.now) }
 {
     stop_from(dcs, shards, value.as_table()?)
 }
@@ -54,7 +55,7 @@ fn each_stop(
 ) -> Result<Option<StopPlans>, NoMemory>
     requires dcs { dcs ≤ 7 }
     requires shards { shards ≤ 8 }
-    ensures { IfOk result (λ found. found ≡ each (stop_at_lem dcs shards) (items_view items.now)) }
+    ensures { IfOk result (λ found. found ≡ each (workload_spec.stop_at dcs shards) (items_view items.now)) }
 {
     let mut stops = StopPlans::new(Vec::new(alloc));
     for item in items {
@@ -68,14 +69,14 @@ fn each_stop(
 
 /// Whether the stops are of other nodes than this one.
 fn have_other_nodes(node: &NodeId, stops: &[StopPlan]) -> bool
-    ensures { result ≡ have_other_nodes_lem node.now stops.now }
+    ensures { result ≡ workload_spec.have_other_nodes node.now stops.now }
 {
     stops.iter().all(|stop| !stop.node.is(node))
 }
 
 /// Whether no two stops are of one node.
 fn nodes_differ(stops: &[StopPlan]) -> bool
-    ensures { result ≡ nodes_differ_lem stops.now }
+    ensures { result ≡ workload_spec.nodes_differ stops.now }
 {
     match stops {
         [] => true,
@@ -85,7 +86,7 @@ fn nodes_differ(stops: &[StopPlan]) -> bool
 
 /// Whether there are at most 32 stops, one for a node.
 fn are_stops(stops: &[StopPlan]) -> bool
-    ensures { result ≡ are_stops_lem stops.now }
+    ensures { result ≡ workload_spec.are_stops stops.now }
 {
     stops.len() <= 32 && nodes_differ(stops)
 }
@@ -99,7 +100,7 @@ pub(crate) fn stops_at(
 ) -> Result<Option<StopPlans>, NoMemory>
     requires dcs { dcs ≤ 7 }
     requires shards { shards ≤ 8 }
-    ensures { IfOk result (λ found. found ≡ stops_at_lem dcs shards (view value.now)) }
+    ensures { IfOk result (λ found. found ≡ workload_spec.stops_at dcs shards (view value.now)) }
 {
     let Some(items) = items_in(value) else {
         return Ok(None);

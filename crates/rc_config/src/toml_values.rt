@@ -3,7 +3,8 @@ ghost use Rattle.std.specs.Prelude.{◌≡◌, ◌≤◌, IfSome};
 ghost use Rattle.std.specs.Option.{option_map};
 ghost use Rattle.toml.specs.Data.{get_member, as_array};
 ghost use Rattle.toml.specs.View.{view, table_view, items_view};
-ghost use Rattle.rc_config.specs.Workload.{integer_in as integer_in_lem, number_at as number_at_lem, key_at as key_at_lem, node_at as node_at_lem, is_among, names_of, file_keys, client_keys, stop_keys, has_only, needed};
+ghost use Rattle.rc_config.specs.Workload.{is_among, names_of, file_keys, client_keys, stop_keys, has_only, needed};
+ghost use Rattle.rc_config.specs.Workload as workload_spec;
 
 use rc_ids::{Key, NodeId};
 use rc_script::words::{key, node};
@@ -19,7 +20,7 @@ pub(crate) enum TableKind {
 
 /// The number, if it is in this range.
 fn integer_in(number: i64, low: u32, high: u32) -> Option<u32>
-    ensures value { result ≡ integer_in_lem low high number }
+    ensures value { result ≡ workload_spec.integer_in low high number }
     ensures range { IfSome result (λ n. (low ≤ n) × (n ≤ high)) }
 {
     if number < i64::from(low) || i64::from(high) < number {
@@ -30,7 +31,7 @@ fn integer_in(number: i64, low: u32, high: u32) -> Option<u32>
 
 /// The integer in this range that the value is.
 pub(crate) fn number_at(value: &Value, low: u32, high: u32) -> Option<u32>
-    ensures value { result ≡ number_at_lem low high (view value.now) }
+    ensures value { result ≡ workload_spec.number_at low high (view value.now) }
     ensures range { IfSome result (λ n. (low ≤ n) × (n ≤ high)) }
 {
     integer_in(value.as_integer()?, low, high)
@@ -38,7 +39,7 @@ pub(crate) fn number_at(value: &Value, low: u32, high: u32) -> Option<u32>
 
 /// The same for a small number.
 pub(crate) fn small_number_at(value: &Value, low: u8, high: u8) -> Option<u8>
-    ensures value { result ≡ number_at_lem low high (view value.now) }
+    ensures value { result ≡ workload_spec.number_at low high (view value.now) }
     ensures range { IfSome result (λ n. (low ≤ n) × (n ≤ high)) }
 {
     let number = number_at(value, u32::from(low), u32::from(high))?;
@@ -47,7 +48,7 @@ pub(crate) fn small_number_at(value: &Value, low: u8, high: u8) -> Option<u8>
 
 /// The key that the value is.
 pub(crate) fn key_at(value: &Value) -> Option<Key>
-    ensures { result ≡ key_at_lem (view value.now) }
+    ensures { result ≡ workload_spec.key_at (view value.now) }
 {
     key(value.as_str()?.as_bytes())
 }
@@ -56,7 +57,7 @@ pub(crate) fn key_at(value: &Value) -> Option<Key>
 pub(crate) fn node_at(dcs: u8, shards: u8, value: &Value) -> Option<NodeId>
     requires dcs { dcs ≤ 7 }
     requires shards { shards ≤ 8 }
-    ensures { result ≡ node_at_lem dcs shards (view value.now) }
+    ensures { result ≡ workload_spec.node_at dcs shards (view value.now) }
 {
     node(dcs, shards, value.as_str()?.as_bytes())
 }
@@ -80,7 +81,7 @@ pub(crate) fn member<'a>(table: &'a Table, name: &str) -> Option<&'a Value>
 
 /// The number in this range at a key of the table.
 pub(crate) fn number_in_table(table: &Table, name: &str, low: u32, high: u32) -> Option<u32>
-    ensures value { result ≡ needed (number_at_lem low high) name.now (table_view table.now) }
+    ensures value { result ≡ needed (workload_spec.number_at low high) name.now (table_view table.now) }
     ensures range { IfSome result (λ n. (low ≤ n) × (n ≤ high)) }
 {
     number_at(member(table, name)?, low, high)
@@ -88,7 +89,7 @@ pub(crate) fn number_in_table(table: &Table, name: &str, low: u32, high: u32) ->
 
 /// The same for a small number.
 pub(crate) fn small_number_in_table(table: &Table, name: &str, low: u8, high: u8) -> Option<u8>
-    ensures value { result ≡ needed (number_at_lem low high) name.now (table_view table.now) }
+    ensures value { result ≡ needed (workload_spec.number_at low high) name.now (table_view table.now) }
     ensures range { IfSome result (λ n. (low ≤ n) × (n ≤ high)) }
 {
     small_number_at(member(table, name)?, low, high)

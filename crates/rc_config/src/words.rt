@@ -4,7 +4,7 @@ ghost use Rattle.std.specs.List.{AllByRecursion};
 ghost use Rattle.std.specs.Option.{option_map};
 ghost use Rattle.std.specs.Str.{bytes_eq, IsUtf8};
 ghost use Rattle.rc_config.specs.declared.mode.Mode.{Mode};
-ghost use Rattle.rc_config.specs.Checks.{is_no_option as is_no_option_lem, is_joined as is_joined_lem, names_logs as names_logs_lem, names_generate as names_generate_lem, plain_mode as plain_mode_lem, logs_mode as logs_mode_lem, generate_mode as generate_mode_lem, mode_found as mode_found_lem};
+ghost use Rattle.rc_config.specs.Checks as checks;
 ghost use Rattle.rc_config.specs.Words.{IsWordsOf, GivesMode};
 
 use crate::command_line::{logs_in, matches, numbers_in};
@@ -37,7 +37,7 @@ fn same(first: &[u8], second: &[u8]) -> bool
 
 /// Whether there is a first byte and it is no hyphen.
 fn is_no_option(dir: &[u8]) -> bool
-    ensures { result ≡ is_no_option_lem dir.now }
+    ensures { result ≡ checks.is_no_option dir.now }
 {
     match dir {
         [] => false,
@@ -47,7 +47,7 @@ fn is_no_option(dir: &[u8]) -> bool
 
 /// Whether the word is `--logs=` and the directory.
 fn is_joined(word: &[u8], dir: &[u8]) -> bool
-    ensures { result ≡ is_joined_lem word.now dir.now }
+    ensures { result ≡ checks.is_joined word.now dir.now }
 {
     match behind(b"--logs=", word) {
         None => false,
@@ -57,7 +57,7 @@ fn is_joined(word: &[u8], dir: &[u8]) -> bool
 
 /// Whether the words are the option and the directory, and nothing else.
 fn names_logs(words: &[Word], dir: &[u8]) -> bool
-    ensures { result ≡ names_logs_lem words.now dir.now }
+    ensures { result ≡ checks.names_logs words.now dir.now }
 {
     match words {
         [word] => is_joined(word.as_bytes(), dir),
@@ -68,7 +68,7 @@ fn names_logs(words: &[Word], dir: &[u8]) -> bool
 
 /// Whether the words are `generate` and the two numbers, and nothing else.
 fn names_generate(words: &[Word], number: &[u8], size: &[u8]) -> bool
-    ensures { result ≡ names_generate_lem words.now number.now size.now }
+    ensures { result ≡ checks.names_generate words.now number.now size.now }
 {
     match words {
         [word, first, second] => {
@@ -82,7 +82,7 @@ fn names_generate(words: &[Word], number: &[u8], size: &[u8]) -> bool
 
 /// The mode of no word.
 fn plain_mode(words: &[Word]) -> Option<Mode>
-    ensures exact { result ≡ plain_mode_lem words.now }
+    ensures exact { result ≡ checks.plain_mode words.now }
     ensures form { IfSome result (IsWordsOf words.now) }
 {
     match words {
@@ -93,7 +93,7 @@ fn plain_mode(words: &[Word]) -> Option<Mode>
 
 /// The mode of an option with a directory.
 fn logs_mode(alloc: Global, words: &[Word], dir: &str) -> Result<Option<Mode>, NoMemory>
-    ensures exact { IfOk result (λ found. found ≡ logs_mode_lem words.now dir.now) }
+    ensures exact { IfOk result (λ found. found ≡ checks.logs_mode words.now dir.now) }
     ensures form { IfOk result (λ found. IfSome found (IsWordsOf words.now)) }
 {
     if !is_no_option(dir.as_bytes()) || !names_logs(words, dir.as_bytes()) {
@@ -104,7 +104,7 @@ fn logs_mode(alloc: Global, words: &[Word], dir: &str) -> Result<Option<Mode>, N
 
 /// The mode of two numbers.
 fn generate_mode(words: &[Word], number_word: &str, size_word: &str) -> Option<Mode>
-    ensures exact { result ≡ generate_mode_lem words.now number_word.now size_word.now }
+    ensures exact { result ≡ checks.generate_mode words.now number_word.now size_word.now }
     ensures form { IfSome result (IsWordsOf words.now) }
 {
     let number = number_in(0, 2_147_483_647, number_word.as_bytes())?;
@@ -123,7 +123,7 @@ fn mode_found(
     logs: Option<&str>,
     numbers: Option<(&str, &str)>,
 ) -> Result<Option<Mode>, NoMemory>
-    ensures exact { IfOk result (λ found. found ≡ mode_found_lem words.now (option_map (λ s. s.now) logs.entry) (option_map (λ p. (p.0.now, p.1.now)) numbers.entry)) }
+    ensures exact { IfOk result (λ found. found ≡ checks.mode_found words.now (option_map (λ s. s.now) logs.entry) (option_map (λ p. (p.0.now, p.1.now)) numbers.entry)) }
     ensures form { IfOk result (λ found. IfSome found (IsWordsOf words.now)) }
 {
     match (logs, numbers) {

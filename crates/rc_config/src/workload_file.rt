@@ -5,7 +5,8 @@ ghost use Rattle.toml.specs.Data.{get_member};
 ghost use Rattle.toml.specs.Errors.{IsMemory};
 ghost use Rattle.toml.specs.View.{table_view};
 ghost use Rattle.rc_config.specs.Sound.{IsWorkload};
-ghost use Rattle.rc_config.specs.Workload.{needed, optional, number_at as number_at_lem, splits_at as splits_at_lem, weights_at as weights_at_lem, clients_at as clients_at_lem, stops_at as stops_at_lem, workload_of as workload_of_lem, document_of, workload_in, GivesWorkload};
+ghost use Rattle.rc_config.specs.Workload.{needed, optional, document_of, workload_in, GivesWorkload};
+ghost use Rattle.rc_config.specs.Workload as workload_spec;
 
 use crate::arrays::{splits_at, weights_at};
 use crate::clients::clients_at;
@@ -21,7 +22,7 @@ use toml::de::Error;
 
 /// The split keys, none where they are missing.
 fn splits_in(alloc: Global, table: &Table) -> Result<Option<Keys>, NoMemory>
-    ensures { IfOk result (λ found. found ≡ optional [] splits_at_lem (get_member (codes "splits") (table_view table.now))) }
+    ensures { IfOk result (λ found. found ≡ optional [] workload_spec.splits_at (get_member (codes "splits") (table_view table.now))) }
 {
     match member(table, "splits") {
         None => Ok(Some(Keys::new(alloc))),
@@ -31,7 +32,7 @@ fn splits_in(alloc: Global, table: &Table) -> Result<Option<Keys>, NoMemory>
 
 /// The weights of so many datacentres, all 1 where they are missing.
 fn weights_in(alloc: Global, dcs: u8, table: &Table) -> Result<Option<Weights>, NoMemory>
-    ensures { IfOk result (λ found. found ≡ optional (equal_weights dcs) weights_at_lem (get_member (codes "weights") (table_view table.now))) }
+    ensures { IfOk result (λ found. found ≡ optional (equal_weights dcs) workload_spec.weights_at (get_member (codes "weights") (table_view table.now))) }
 {
     match member(table, "weights") {
         None => Ok(Some(Weights::new(vec![in alloc; 1u8; usize::from(dcs)]?))),
@@ -41,7 +42,7 @@ fn weights_in(alloc: Global, dcs: u8, table: &Table) -> Result<Option<Weights>, 
 
 /// How often messages are lost or repeated, 0 where the key is missing.
 fn every_in(table: &Table, name: &str) -> Option<u32>
-    ensures { result ≡ optional 0 (number_at_lem 0 1000000) (get_member name.now (table_view table.now)) }
+    ensures { result ≡ optional 0 (workload_spec.number_at 0 1000000) (get_member name.now (table_view table.now)) }
 {
     match member(table, name) {
         None => Some(0),
@@ -51,7 +52,7 @@ fn every_in(table: &Table, name: &str) -> Option<u32>
 
 /// The clients.
 fn clients_in(alloc: Global, table: &Table) -> Result<Option<ClientPlans>, NoMemory>
-    ensures { IfOk result (λ found. found ≡ needed clients_at_lem (codes "client") (table_view table.now)) }
+    ensures { IfOk result (λ found. found ≡ needed workload_spec.clients_at (codes "client") (table_view table.now)) }
 {
     match member(table, "client") {
         None => Ok(None),
@@ -68,7 +69,7 @@ fn stops_in(
 ) -> Result<Option<StopPlans>, NoMemory>
     requires dcs { dcs ≤ 7 }
     requires shards { shards ≤ 8 }
-    ensures { IfOk result (λ found. found ≡ optional [] (stops_at_lem dcs shards) (get_member (codes "stop") (table_view table.now))) }
+    ensures { IfOk result (λ found. found ≡ optional [] (workload_spec.stops_at dcs shards) (get_member (codes "stop") (table_view table.now))) }
 {
     match member(table, "stop") {
         None => Ok(Some(StopPlans::new(Vec::new(alloc)))),
@@ -105,7 +106,7 @@ fn is_cluster(
 /// The workload that the table is.
 #[tactic(auto, unfolding(crate::specs::Workload::workload_of))]
 fn workload_of(alloc: Global, table: &Table) -> Result<Option<Workload>, NoMemory>
-    ensures { IfOk result (λ found. found ≡ workload_of_lem (table_view table.now)) }
+    ensures { IfOk result (λ found. found ≡ workload_spec.workload_of (table_view table.now)) }
 {
     let Some(dcs) = small_number_in_table(table, "dcs", 1, 7) else {
         return Ok(None);

@@ -5,7 +5,8 @@ ghost use Rattle.std.specs.Bool.{OnTrue};
 ghost use Rattle.std.specs.Ordering.{is_lt};
 ghost use Rattle.rc_ids.specs.Texts.{key_cmp};
 ghost use Rattle.rc_ids.specs.Ballots.{IsLeastBallot};
-ghost use Rattle.rc_ids.specs.Cluster.{IsLayout, layout, cluster_fault, equal_weights, is_dc, is_shard, is_key, is_weight as is_weight_lem, is_dc_count as is_dc_count_lem, rise as rise_lem, are_weights as are_weights_lem, home as home_lem, owner_of, next_ballot as next_ballot_lem, shard_of as shard_of_lem, shard_from};
+ghost use Rattle.rc_ids.specs.Cluster.{IsLayout, layout, cluster_fault, equal_weights, is_dc, is_shard, is_key, owner_of, shard_from};
+ghost use Rattle.rc_ids.specs.Cluster as cluster_spec;
 
 use crate::{Ballot, ClusterFault, DcId, Key, NoMemory, Quorum, ShardId, TxId};
 use std::marker::Model;
@@ -30,7 +31,7 @@ impl Model for Cluster {
 }
 
 fn is_dc_count(dcs: u8) -> bool
-    ensures { result ≡ is_dc_count_lem dcs }
+    ensures { result ≡ cluster_spec.is_dc_count dcs }
 {
     dcs == 1 || dcs == 3 || dcs == 5 || dcs == 7
 }
@@ -44,7 +45,7 @@ fn is_below(first: &[u8], second: &[u8]) -> bool
 
 /// Whether each key is above the one before.
 fn rise(splits: &[Key]) -> bool
-    ensures rise { result ≡ rise_lem splits.now }
+    ensures rise { result ≡ cluster_spec.rise splits.now }
     ensures keys { OnTrue result (IsTrue (list_all is_key splits.now)) }
 {
     let Some((first, rest)) = splits.split_first() else {
@@ -62,19 +63,19 @@ fn rise(splits: &[Key]) -> bool
 }
 
 fn is_weight(weight: u8) -> bool
-    ensures { result ≡ is_weight_lem weight }
+    ensures { result ≡ cluster_spec.is_weight weight }
 {
     1 <= weight && weight <= 9
 }
 
 fn all_weights(weights: &[u8]) -> bool
-    ensures { result ≡ list_all is_weight_lem weights.now }
+    ensures { result ≡ list_all cluster_spec.is_weight weights.now }
 {
     weights.iter().all(|weight| is_weight(*weight))
 }
 
 fn are_weights(dcs: u8, weights: &[u8]) -> bool
-    ensures { result ≡ are_weights_lem dcs weights.now }
+    ensures { result ≡ cluster_spec.are_weights dcs weights.now }
 {
     weights.len() == dcs as usize && all_weights(weights)
 }
@@ -175,7 +176,7 @@ impl Cluster {
 
     /// The home of a transaction.
     pub fn home(&self, tx: TxId) -> DcId
-        ensures home { result ≡ home_lem self.now tx }
+        ensures home { result ≡ cluster_spec.home self.now tx }
         ensures dc { IsTrue (is_dc self.now result) }
     {
         DcId((tx.0 % self.dcs as u32) as u8 + 1)
@@ -195,7 +196,7 @@ impl Cluster {
     /// The least ballot of the datacentre above the given one; None where it would pass 2^31.
     pub fn next_ballot(&self, dc: DcId, above: Ballot) -> Option<Ballot>
         requires { IsTrue (is_dc self.now dc) }
-        ensures value { result ≡ next_ballot_lem self.now dc above }
+        ensures value { result ≡ cluster_spec.next_ballot self.now dc above }
         ensures least { IfSome result (λ b. IsLeastBallot self.now dc above b) }
     {
         let dcs = self.dcs as u32;
@@ -209,7 +210,7 @@ impl Cluster {
 
     /// The shard of a key.
     pub fn shard_of(&self, key: &Key) -> ShardId
-        ensures shard { result ≡ shard_of_lem self.now key.now }
+        ensures shard { result ≡ cluster_spec.shard_of self.now key.now }
         ensures within { IsTrue (is_shard self.now result) }
     {
         let mut shard = 1u8;

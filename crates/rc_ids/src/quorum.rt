@@ -1,6 +1,7 @@
 // Quorums by weight.
 ghost use Rattle.std.specs.Prelude.{◌≡◌, ℕ, ◌+◌, ◌≤◌, ◌<◌, length, sum, List, take, drop, replicate, ◌-◌};
-ghost use Rattle.rc_ids.specs.Cluster.{holds as holds_lem, weight_from, Layout, IsLayout};
+ghost use Rattle.rc_ids.specs.Cluster.{weight_from, Layout, IsLayout};
+ghost use Rattle.rc_ids.specs.Cluster as cluster_spec;
 ghost use Rattle.rc_ids.specs.Quorum.{QuorumLaws};
 
 use crate::{DcId, DcSet};
@@ -90,7 +91,7 @@ impl Quorum {
 
     /// Whether the set is a quorum: its members weigh more than half of all datacentres.
     pub fn holds(&self, set: DcSet) -> bool
-        ensures { result ≡ holds_lem self.now set }
+        ensures { result ≡ cluster_spec.holds self.now set }
     {
         let weights = &self.weights[..self.dcs];
         weight_of_all(weights) < 2 * weight_of(weights, &set)

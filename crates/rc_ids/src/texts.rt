@@ -1,12 +1,13 @@
 // The bytes of keys and values.
 ghost use Rattle.std.specs.Prelude.{◌≡◌, ℕ, ◌≤◌, List, length, take, not, position, OnOk, IfErr, None, Some};
-ghost use Rattle.rc_ids.specs.Texts.{is_key_byte as is_key_byte_lem, is_value_byte as is_value_byte_lem, IsKey, IsText, key_fault, value_fault};
+ghost use Rattle.rc_ids.specs.Texts.{IsKey, IsText, key_fault, value_fault};
+ghost use Rattle.rc_ids.specs.Texts as texts;
 
 use crate::TextFault;
 
 /// Whether the byte may stand in a key: a digit, a letter, `_` or `-`.
 pub fn is_key_byte(b: u8) -> bool
-    ensures { result ≡ is_key_byte_lem b }
+    ensures { result ≡ texts.is_key_byte b }
 {
     (b'0' <= b && b <= b'9')
         || (b'A' <= b && b <= b'Z')
@@ -17,19 +18,19 @@ pub fn is_key_byte(b: u8) -> bool
 
 /// Whether the byte may stand in a value: one from the space to `~`.
 pub fn is_value_byte(b: u8) -> bool
-    ensures { result ≡ is_value_byte_lem b }
+    ensures { result ≡ texts.is_value_byte b }
 {
     b' ' <= b && b <= b'~'
 }
 
 fn bad_key_place(bytes: &[u8]) -> Option<usize>
-    ensures { result ≡ position (λ b. not (is_key_byte_lem b)) bytes.now }
+    ensures { result ≡ position (λ b. not (texts.is_key_byte b)) bytes.now }
 {
     bytes.iter().position(|b| !is_key_byte(*b))
 }
 
 fn bad_value_place(bytes: &[u8]) -> Option<usize>
-    ensures { result ≡ position (λ b. not (is_value_byte_lem b)) bytes.now }
+    ensures { result ≡ position (λ b. not (texts.is_value_byte b)) bytes.now }
 {
     bytes.iter().position(|b| !is_value_byte(*b))
 }

@@ -2,7 +2,8 @@
 ghost use Rattle.std.specs.Prelude.{◌≡◌, ℕ, ◌↔◌, List, None, Some, IfOk, IfErr, IsTrue, nat_eq, ◌≢◌};
 ghost use Rattle.std.specs.Cmp.{on_equiv, on_per, partial_equiv_from_equiv};
 ghost use Rattle.std.specs.Cmp.Lexicographic.{nat_list_eq_equiv};
-ghost use Rattle.rc_ids.specs.Texts.{gone as gone_lem, IsValue, value_fault, same_key};
+ghost use Rattle.rc_ids.specs.Texts.{IsValue, value_fault, same_key};
+ghost use Rattle.rc_ids.specs.Texts as texts;
 ghost use Rattle.rc_ids.specs.declared.fault.TextFault.TheVariants.{NoMemory as OutOfMemory};
 
 use crate::{NoMemory, TextFault, check_text};
@@ -42,7 +43,7 @@ impl Val {
 
     /// The gone value, by which a key is deleted.
     pub fn gone(_alloc: Global) -> Result<Val, NoMemory>
-        ensures { IfOk result (λ v. v ≡ gone_lem) }
+        ensures { IfOk result (λ v. v ≡ texts.gone) }
     {
         Ok(Val { text: None })
     }
@@ -60,7 +61,7 @@ impl Val {
 
     /// Whether the value is gone.
     pub fn is_gone(&self) -> bool
-        ensures { IsTrue result ↔ (self.now ≡ gone_lem) }
+        ensures { IsTrue result ↔ (self.now ≡ texts.gone) }
     {
         self.text.is_none()
     }

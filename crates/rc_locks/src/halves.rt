@@ -3,7 +3,8 @@ ghost use Rattle.std.specs.Prelude.{◌≡◌, ◌≤◌, ◌<◌, ℕ, List, No
 ghost use Rattle.std.specs.Ordering.{nat_cmp, is_le};
 ghost use Rattle.std.specs.Option.{option_copied, option_map};
 ghost use Rattle.rc_body.specs.declared.entry.Entry.{Entry};
-ghost use Rattle.rc_ids.specs.Tables.{found, put as put_lem, without};
+ghost use Rattle.rc_ids.specs.Tables.{found, without};
+ghost use Rattle.rc_ids.specs.Tables as tables;
 ghost use Rattle.rc_locks.specs.Cells.{IsRising, IsIndexed, IsRoomFor};
 ghost use Rattle.rc_locks.specs.LockSets.{parts_left, put_new, put_all};
 ghost use Rattle.rc_locks.specs.Places.{place_where};
@@ -64,7 +65,7 @@ fn put(parts: &mut Vec<Prepared>, tx: TxId, part: Body)
     requires rises { IsRising parts.old.items }
     requires room { vec_len parts.old < vec_capacity parts.old }
     requires absent { found nat_cmp parts.old.items tx ≡ None }
-    ensures { parts.new.items ≡ put_lem nat_cmp parts.old.items tx part }
+    ensures { parts.new.items ≡ tables.put nat_cmp parts.old.items tx part }
 {
     let place = place_of(parts, tx);
     let _placed = parts.insert(place, (tx, part));
@@ -90,7 +91,7 @@ pub fn insert(parts: &mut Vec<Prepared>, cells: &mut Cells, tx: TxId, part: Body
     requires absent { found nat_cmp parts.old.items tx ≡ None }
     requires room { vec_len parts.old < vec_capacity parts.old }
     requires rooms { IsRoomFor tx part cells.old.entries }
-    ensures parts { parts.new.items ≡ put_lem nat_cmp parts.old.items tx part }
+    ensures parts { parts.new.items ≡ tables.put nat_cmp parts.old.items tx part }
     ensures rises { IsRising parts.new.items }
     ensures indexed { IsIndexed parts.new.items cells.new.entries }
 {

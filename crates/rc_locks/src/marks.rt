@@ -3,7 +3,8 @@ ghost use Rattle.std.specs.Prelude.{◌≡◌, ◌≤◌, ◌<◌, ◌+◌, ◌+
 ghost use Rattle.std.specs.Ordering.{is_le, is_eq};
 ghost use Rattle.rc_ids.specs.Texts.{same_key};
 ghost use Rattle.rc_ids.specs.Tables.{member, added};
-ghost use Rattle.rc_protocol.specs.Shard.{Mark as MarkLem, mark_cmp, cleared, is_other, is_taken, is_free as is_free_lem, added_all};
+ghost use Rattle.rc_protocol.specs.Shard.{Mark as MarkLem, mark_cmp, cleared, is_other, is_taken, added_all};
+ghost use Rattle.rc_protocol.specs.Shard as shard;
 ghost use Rattle.rc_locks.specs.Places.{place_where, passes_at};
 ghost use Rattle.rc_locks.specs.LockSets.{cleared_all};
 
@@ -116,7 +117,7 @@ pub fn clear_all(marks: &mut Vec<Mark>, txs: &[TxId])
 /// Adds the waiting reads whose key nobody holds exclusively, at the end. There is room for all waiting reads.
 pub fn add_free(freed: &mut Vec<Mark>, waiting: &[Mark], parts: &[Prepared])
     requires { vec_len freed.old + length waiting.now ≤ vec_capacity freed.old }
-    ensures items { freed.new.items ≡ freed.old.items ++ filter (is_free_lem parts.now) waiting.now }
+    ensures items { freed.new.items ≡ freed.old.items ++ filter (shard.is_free parts.now) waiting.now }
     ensures few { vec_len freed.new ≤ vec_len freed.old + length waiting.now }
 {
     for mark in waiting {
@@ -128,7 +129,7 @@ pub fn add_free(freed: &mut Vec<Mark>, waiting: &[Mark], parts: &[Prepared])
 
 /// Removes the waiting reads whose key nobody holds exclusively.
 pub fn drop_free(waiting: &mut Vec<Mark>, parts: &[Prepared])
-    ensures { waiting.new.items ≡ filter (λ (m : MarkLem). not (is_free_lem parts.now m)) waiting.old.items }
+    ensures { waiting.new.items ≡ filter (λ (m : MarkLem). not (shard.is_free parts.now m)) waiting.old.items }
 {
     waiting.retain(|mark| !is_free(parts, mark));
 }
@@ -153,7 +154,7 @@ pub fn copy(alloc: Global, marks: &[Mark]) -> Result<Vec<Mark>, NoMemory>
 
 /// Leaves the reads whose key nobody holds exclusively.
 pub fn keep_free(waiting: &mut Vec<Mark>, parts: &[Prepared])
-    ensures { waiting.new.items ≡ filter (is_free_lem parts.now) waiting.old.items }
+    ensures { waiting.new.items ≡ filter (shard.is_free parts.now) waiting.old.items }
 {
     waiting.retain(|mark| is_free(parts, mark));
 }

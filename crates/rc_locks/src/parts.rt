@@ -3,10 +3,12 @@ ghost use Rattle.std.specs.Prelude.{◌≡◌, ◌≤◌, ◌<◌, ◌+◌, leng
 ghost use Rattle.std.specs.Ordering.{nat_cmp, is_le, is_eq};
 ghost use Rattle.std.specs.Option.{option_copied};
 ghost use Rattle.rc_body.specs.declared.entry.Entry.{Entry};
-ghost use Rattle.rc_ids.specs.Tables.{found, put as put_lem, without};
-ghost use Rattle.rc_protocol.specs.Shard.{holder as holder_lem, reader as reader_lem, is_free as is_free_lem};
+ghost use Rattle.rc_ids.specs.Tables.{found, without};
+ghost use Rattle.rc_ids.specs.Tables as tables;
+ghost use Rattle.rc_protocol.specs.Shard as shard;
 ghost use Rattle.rc_locks.specs.Places.{place_where};
-ghost use Rattle.rc_locks.specs.LockSets.{parts_left, put_new as put_new_lem, put_all as put_all_lem};
+ghost use Rattle.rc_locks.specs.LockSets.{parts_left};
+ghost use Rattle.rc_locks.specs.LockSets as lock_sets;
 
 use crate::entries::writes_key;
 use rc_body::Body;
@@ -30,7 +32,7 @@ pub fn find<'a>(parts: &'a [Prepared], tx: TxId) -> Option<&'a Body>
 
 /// Who holds the key exclusively: the least transaction whose part writes it.
 pub fn holder(parts: &[Prepared], key: &Key) -> Option<TxId>
-    ensures { result ≡ holder_lem parts.now key.now }
+    ensures { result ≡ shard.holder parts.now key.now }
 {
     for entry in parts {
         if writes_key(&entry.1, key) {
@@ -42,7 +44,7 @@ pub fn holder(parts: &[Prepared], key: &Key) -> Option<TxId>
 
 /// The least transaction whose part has the key.
 pub fn reader(parts: &[Prepared], key: &Key) -> Option<TxId>
-    ensures { result ≡ reader_lem parts.now key.now }
+    ensures { result ≡ shard.reader parts.now key.now }
 {
     for entry in parts {
         if entry.1.has(key) {
@@ -54,7 +56,7 @@ pub fn reader(parts: &[Prepared], key: &Key) -> Option<TxId>
 
 /// Whether nobody holds the key of the mark exclusively.
 pub fn is_free(parts: &[Prepared], mark: &(Key, TxId)) -> bool
-    ensures { result ≡ is_free_lem parts.now mark.now }
+    ensures { result ≡ shard.is_free parts.now mark.now }
 {
     holder(parts, &mark.0).is_none()
 }
@@ -76,7 +78,7 @@ fn place_of(parts: &[Prepared], tx: TxId) -> usize
 pub fn put(parts: &mut Vec<Prepared>, tx: TxId, part: Body)
     requires room { vec_len parts.old < vec_capacity parts.old }
     requires absent { found nat_cmp parts.old.items tx ≡ None }
-    ensures { parts.new.items ≡ put_lem nat_cmp parts.old.items tx part }
+    ensures { parts.new.items ≡ tables.put nat_cmp parts.old.items tx part }
 {
     let place = place_of(parts, tx);
     let _placed = parts.insert(place, (tx, part));
@@ -84,7 +86,7 @@ pub fn put(parts: &mut Vec<Prepared>, tx: TxId, part: Body)
 
 /// Gives the transaction this part, unless it has one.
 fn put_new(parts: &mut Vec<Prepared>, tx: TxId, part: Body) -> Result<(), NoMemory>
-    ensures { OnOk result (parts.new.items ≡ put_new_lem parts.old.items tx part) }
+    ensures { OnOk result (parts.new.items ≡ lock_sets.put_new parts.old.items tx part) }
 {
     if find(parts, tx).is_some() {
         return Ok(());
@@ -96,7 +98,7 @@ fn put_new(parts: &mut Vec<Prepared>, tx: TxId, part: Body) -> Result<(), NoMemo
 
 /// Gives each transaction its part; of two parts of one transaction the first stays.
 pub fn put_all(parts: &mut Vec<Prepared>, entries: Vec<Prepared>) -> Result<(), NoMemory>
-    ensures { OnOk result (parts.new.items ≡ put_all_lem parts.old.items entries.items) }
+    ensures { OnOk result (parts.new.items ≡ lock_sets.put_all parts.old.items entries.items) }
 {
     for (tx, part) in entries {
         put_new(parts, tx, part)?;

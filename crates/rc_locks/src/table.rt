@@ -4,7 +4,7 @@ ghost use Rattle.std.specs.Option.{option_copied};
 ghost use Rattle.std.specs.Ordering.{nat_cmp};
 ghost use Rattle.rc_ids.specs.Tables.{found};
 ghost use Rattle.rc_body.specs.declared.entry.Entry.{Entry};
-ghost use Rattle.rc_protocol.specs.Shard.{holder as holder_lem};
+ghost use Rattle.rc_protocol.specs.Shard as shard_spec;
 ghost use Rattle.rc_locks.specs.LockSets.{LockSets, no_locks, only_parts, asked, after_ask, after_cancel, waiting_for, tested, MayBePrepared, after_prepare, without_all, freed, after_finish};
 
 use crate::{Answer, Asked, Freed};
@@ -82,7 +82,7 @@ pub trait LockTable: Drop {
 
     /// Who holds the key exclusively: the least transaction whose part writes it.
     fn holder(&self, key: &Key) -> Option<TxId>
-        ensures { result ≡ holder_lem (state self.now).parts key.now };
+        ensures { result ≡ shard_spec.holder (state self.now).parts key.now };
 
     /// How many reads wait for the key.
     fn waiting(&self, key: &Key) -> usize

@@ -2,7 +2,8 @@
 ghost use Rattle.std.specs.Prelude.{◌≡◌, IfOk};
 ghost use Rattle.rc_fields.specs.Formats.{Gives, tested_at, pick};
 ghost use Rattle.rc_body.specs.Reading.{reason_at};
-ghost use Rattle.rc_msg.specs.Reading.{tx_key_at, tx_ballot_at, owned_at, tx_owned_at, is_shard_reason as is_shard_reason_lem, answer_at, read_ask_at, read_cancel_at, granted_at, propose_at, prepare_at, prepared_at, voted_at, refused_at, ask_at, promise_at, decided_at, finish_at, abandon_at, catch_ask_at, catch_page_at, kinds_at, msg_at};
+ghost use Rattle.rc_msg.specs.Reading.{tx_key_at, tx_ballot_at, owned_at, tx_owned_at, answer_at, read_ask_at, read_cancel_at, granted_at, propose_at, prepare_at, prepared_at, voted_at, refused_at, ask_at, promise_at, decided_at, finish_at, abandon_at, catch_ask_at, catch_page_at, kinds_at, msg_at};
+ghost use Rattle.rc_msg.specs.Reading as reading_spec;
 
 use crate::Msg;
 use rc_body::{Reason, reading};
@@ -115,14 +116,14 @@ fn prepare(alloc: Global, fields: &mut Fields<'_>) -> Result<Option<Msg>, NoMemo
 
 /// A shard's no is of locks or versions.
 fn is_shard_reason(reason: &Reason) -> bool
-    ensures { result ≡ is_shard_reason_lem reason.now }
+    ensures { result ≡ reading_spec.is_shard_reason reason.now }
 {
     !matches!(reason, Reason::Promised(_))
 }
 
 #[tactic(auto, unfolding(rc_fields::specs::Formats::tested_at))]
 fn shard_reason(fields: &mut Fields<'_>) -> Option<Reason>
-    ensures { Gives result fields.new (tested_at is_shard_reason_lem reason_at fields.old) }
+    ensures { Gives result fields.new (tested_at reading_spec.is_shard_reason reason_at fields.old) }
 {
     let reason = reading::reason(fields)?;
     if is_shard_reason(&reason) {

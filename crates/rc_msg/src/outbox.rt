@@ -1,6 +1,7 @@
 // What a party is about to send, as bytes.
 ghost use Rattle.std.specs.Prelude.{◌≡◌, ◌≤◌, ◌==◌, [], length, take, OnOk, OnErr};
-ghost use Rattle.rc_msg.specs.Outboxes.{new_outbox, posted, cut as cut_lem};
+ghost use Rattle.rc_msg.specs.Outboxes.{new_outbox, posted};
+ghost use Rattle.rc_msg.specs.Outboxes as outboxes;
 
 use crate::Msg;
 use crate::writing::spelled;
@@ -68,7 +69,7 @@ impl Outbox {
     /// Keeps the first `len` messages.
     pub fn cut(&mut self, len: usize)
         requires { len ≤ length self.old.letters }
-        ensures { self.new ≡ cut_lem self.old len }
+        ensures { self.new ≡ outboxes.cut self.old len }
     {
         self.letters.cut(len);
     }

@@ -1,7 +1,8 @@
 // A client.
 ghost use Rattle.std.specs.Prelude.{◌≡◌, ◌<◌, [], ◌∷◌, ◌++◌, ◌==◌, ◌&&◌, true, false, length, None, Some, OnOk, IsErrOf, if◌then◌else◌};
-ghost use Rattle.rc_ids.specs.Cluster.{is_dc as is_dc_lem};
-ghost use Rattle.rc_protocol.specs.Client.{new_client, is_open as is_open_lem, slot_of, do_read, do_write, do_commit, do_cancel, do_retry, do_vanish, client_row, drops_read, proposes_again, asks_again, waiting_keys, is_proposed, reads_on, asks_new, reads_slot, proposes, proposes_once_read, on_granted, on_voted, on_refused, on_decided, client_learns, gives_up, is_out_of_slots as is_full_lem, KeyWornOut as IsWornOut};
+ghost use Rattle.rc_ids.specs.Cluster as cluster_spec;
+ghost use Rattle.rc_protocol.specs.Client.{new_client, slot_of, do_read, do_write, do_commit, do_cancel, do_retry, do_vanish, client_row, drops_read, proposes_again, asks_again, waiting_keys, is_proposed, reads_on, asks_new, reads_slot, proposes, proposes_once_read, on_granted, on_voted, on_refused, on_decided, client_learns, gives_up, KeyWornOut as IsWornOut};
+ghost use Rattle.rc_protocol.specs.Client as client_spec;
 ghost use Rattle.rc_plain_client.specs.Acts.{Says, Does, completes_at};
 ghost use Rattle.rc_plain_client.specs.Phases.{phase_of};
 ghost use Rattle.rc_plain_client.specs.Slots.{waits_at};
@@ -47,14 +48,14 @@ impl Model for Client {
 
 /// Whether the datacentre is of the world.
 fn is_dc(cluster: &Cluster, dc: DcId) -> bool
-    ensures { result ≡ is_dc_lem cluster.now dc }
+    ensures { result ≡ cluster_spec.is_dc cluster.now dc }
 {
     1 <= dc.0 && dc.0 <= cluster.dcs()
 }
 
 /// Whether a message is of this transaction, and of a datacentre of the world.
 fn concerns(cluster: &Cluster, tx: TxId, of: TxId, dc: DcId) -> bool
-    ensures { result ≡ ((of == tx) && is_dc_lem cluster.now dc) }
+    ensures { result ≡ ((of == tx) && cluster_spec.is_dc cluster.now dc) }
 {
     of == tx && is_dc(cluster, dc)
 }
@@ -100,14 +101,14 @@ impl Client {
 
     /// Whether the client still takes commands.
     pub fn is_open(&self) -> bool
-        ensures { result ≡ is_open_lem self.now.phase }
+        ensures { result ≡ client_spec.is_open self.now.phase }
     {
         self.phase.is_open()
     }
 
     /// Whether the key would be one too many.
     pub fn is_full(&self, key: &Key) -> bool
-        ensures { result ≡ is_full_lem self.now key.now }
+        ensures { result ≡ client_spec.is_out_of_slots self.now key.now }
     {
         self.slots.is_full(key)
     }
@@ -121,7 +122,7 @@ impl Client {
         out: &mut Messages,
         lines: &mut Lines,
     ) -> Result<(), ClientFault>
-        requires { is_full_lem self.old key.now ≡ false }
+        requires { client_spec.is_out_of_slots self.old key.now ≡ false }
         ensures done { OnOk result (Does (do_read cluster.now tx self.old key.now) self.new out.old out.new lines.old lines.new) }
         ensures worn { IsErrOf result KeyWornOut → (do_read cluster.now tx self.old key.now).refused ≡ Some IsWornOut }
     {
@@ -170,8 +171,8 @@ impl Client {
 
     /// Buffers a write.
     pub fn write(&mut self, key: &Key, value: &Val) -> Result<(), ClientFault>
-        requires open { is_open_lem self.old.phase ≡ true }
-        requires room { is_full_lem self.old key.now ≡ false }
+        requires open { client_spec.is_open self.old.phase ≡ true }
+        requires room { client_spec.is_out_of_slots self.old key.now ≡ false }
         ensures done { OnOk result (self.new ≡ (do_write self.old key.now value.now).after) }
         ensures worn { IsErrOf result KeyWornOut → (do_write self.old key.now value.now).refused ≡ Some IsWornOut }
     {

@@ -1,7 +1,8 @@
 // What datacentres give for a read.
 ghost use Rattle.std.specs.Prelude.{◌≡◌, [], ◌∷◌, ◌++◌, IfOk, Option, List};
 ghost use Rattle.std.specs.Option.{option_copied};
-ghost use Rattle.rc_protocol.specs.Client.{granted_by as granted_by_lem, best_grant};
+ghost use Rattle.rc_protocol.specs.Client.{best_grant};
+ghost use Rattle.rc_protocol.specs.Client as client;
 
 use rc_ids::{DcId, DcSet, NoMemory, Val, Version};
 use std::alloc::Global;
@@ -54,7 +55,7 @@ impl Grant {
 
 /// The datacentres that gave these.
 fn givers(grants: &[Grant]) -> DcSet
-    ensures { result ≡ granted_by_lem grants.now }
+    ensures { result ≡ client.granted_by grants.now }
 {
     match grants.split_first() {
         None => DcSet::new(),
@@ -104,7 +105,7 @@ impl Grants {
 
     /// The datacentres that granted.
     pub fn granted_by(&self) -> DcSet
-        ensures { result ≡ granted_by_lem self.now }
+        ensures { result ≡ client.granted_by self.now }
     {
         givers(self.items.as_slice())
     }

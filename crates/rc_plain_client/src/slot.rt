@@ -1,7 +1,8 @@
 // A key that a transaction touched.
 ghost use Rattle.std.specs.Prelude.{◌≡◌, ◌++◌, [], IfOk, OnOk, None, Some, true};
 ghost use Rattle.std.specs.Option.{option_copied};
-ghost use Rattle.rc_protocol.specs.Client.{is_under_way as is_under_way_lem, is_unread as is_unread_lem, wants_grant as wants_grant_lem, granted_by as granted_by_lem, grants_of, prints_of, with_grant, with_read, with_write, read_begun, entry_of, NotRead as IsUnread, UnderWay as IsUnderWay, Complete as IsComplete};
+ghost use Rattle.rc_protocol.specs.Client.{grants_of, prints_of, with_grant, with_read, with_write, read_begun, entry_of, NotRead as IsUnread, UnderWay as IsUnderWay, Complete as IsComplete};
+ghost use Rattle.rc_protocol.specs.Client as client;
 ghost use Rattle.rc_body.specs.Entries.{wears_out};
 ghost use Rattle.rc_plain_client.specs.Reads.{read_of};
 
@@ -75,14 +76,14 @@ impl Slot {
 
     /// Whether the key was not read.
     pub fn is_unread(&self) -> bool
-        ensures { result ≡ is_unread_lem self.now.read }
+        ensures { result ≡ client.is_unread self.now.read }
     {
         matches!(self.read, KeyRead::NotRead)
     }
 
     /// Whether the read is under way.
     pub fn is_under_way(&self) -> bool
-        ensures { result ≡ is_under_way_lem self.now.read }
+        ensures { result ≡ client.is_under_way self.now.read }
     {
         matches!(self.read, KeyRead::UnderWay(_, _))
     }
@@ -99,7 +100,7 @@ impl Slot {
 
     /// Whether the read is under way, and this datacentre has not granted it.
     pub fn wants_grant(&self, dc: DcId) -> bool
-        ensures { result ≡ wants_grant_lem self.now dc }
+        ensures { result ≡ client.wants_grant self.now dc }
     {
         match &self.read {
             KeyRead::UnderWay(_, grants) => !grants.granted_by().has(dc),
@@ -109,7 +110,7 @@ impl Slot {
 
     /// The datacentres that granted the read that is under way.
     pub fn granted_by(&self) -> DcSet
-        ensures { result ≡ granted_by_lem (grants_of self.now.read) }
+        ensures { result ≡ client.granted_by (grants_of self.now.read) }
     {
         match &self.read {
             KeyRead::UnderWay(_, grants) => grants.granted_by(),
@@ -119,7 +120,7 @@ impl Slot {
 
     /// The grants of the read that is under way, and one more.
     pub fn with_grant(&self, grant: Grant) -> Result<Grants, NoMemory>
-        requires { is_under_way_lem self.now.read ≡ true }
+        requires { client.is_under_way self.now.read ≡ true }
         ensures { IfOk result (λ grants. grants ≡ with_grant self.now grant) }
     {
         match &self.read {

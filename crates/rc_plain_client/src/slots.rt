@@ -4,7 +4,8 @@ ghost use Rattle.std.specs.List.{flat_map};
 ghost use Rattle.std.specs.Option.{option_copied};
 ghost use Rattle.rc_ids.specs.Tables.{maybe};
 ghost use Rattle.rc_ids.specs.Texts.{same_key};
-ghost use Rattle.rc_protocol.specs.Client.{Slot as SlotState, slot_of, slot_set, with_read, with_write, reads_begun, waits_for_read, unread_keys as unread_keys_lem, waiting_keys as waiting_keys_lem, read_dropped, is_worn as is_worn_lem, body_of, NotRead as IsUnread, UnderWay as IsUnderWay};
+ghost use Rattle.rc_protocol.specs.Client.{Slot as SlotState, slot_of, slot_set, with_read, with_write, reads_begun, waits_for_read, read_dropped, body_of, NotRead as IsUnread, UnderWay as IsUnderWay};
+ghost use Rattle.rc_protocol.specs.Client as client;
 ghost use Rattle.rc_plain_client.specs.Reads.{read_of};
 ghost use Rattle.rc_plain_client.specs.Slots.{IsPlace, Differ, keys_of, waits_once_begun, waits_at, written_at, IsSlots};
 
@@ -58,7 +59,7 @@ fn would_wait(slots: &[Slot]) -> bool
 
 /// The keys whose read is under way, by bytes.
 fn waiting_among(alloc: Global, slots: &[Slot]) -> Result<BTreeSet<Key>, NoMemory>
-    ensures { IfOk result (λ keys. keys.keys ≡ waiting_keys_lem slots.now) }
+    ensures { IfOk result (λ keys. keys.keys ≡ client.waiting_keys slots.now) }
 {
     let Some((slot, rest)) = slots.split_first() else {
         return Ok(BTreeSet::new(alloc));
@@ -72,7 +73,7 @@ fn waiting_among(alloc: Global, slots: &[Slot]) -> Result<BTreeSet<Key>, NoMemor
 
 /// The keys that were not read, by bytes.
 fn unread_among(alloc: Global, slots: &[Slot]) -> Result<BTreeSet<Key>, NoMemory>
-    ensures { IfOk result (λ keys. keys.keys ≡ unread_keys_lem slots.now) }
+    ensures { IfOk result (λ keys. keys.keys ≡ client.unread_keys slots.now) }
 {
     let Some((slot, rest)) = slots.split_first() else {
         return Ok(BTreeSet::new(alloc));
@@ -199,7 +200,7 @@ impl Slots {
 
     /// The keys whose read is under way, by bytes.
     pub fn waiting_keys(&self) -> Result<BTreeSet<Key>, NoMemory>
-        ensures { IfOk result (λ keys. keys.keys ≡ waiting_keys_lem self.now) }
+        ensures { IfOk result (λ keys. keys.keys ≡ client.waiting_keys self.now) }
     {
         waiting_among(*self.items.allocator(), self.items.as_slice())
     }
@@ -230,21 +231,21 @@ impl Slots {
 
     /// The keys that were not read, by bytes.
     pub fn unread_keys(&self) -> Result<BTreeSet<Key>, NoMemory>
-        ensures { IfOk result (λ keys. keys.keys ≡ unread_keys_lem self.now) }
+        ensures { IfOk result (λ keys. keys.keys ≡ client.unread_keys self.now) }
     {
         unread_among(*self.items.allocator(), self.items.as_slice())
     }
 
     /// Whether a key is written, and no version comes after the one that was read.
     pub fn is_worn(&self) -> bool
-        ensures { result ≡ is_worn_lem self.now }
+        ensures { result ≡ client.is_worn self.now }
     {
         self.items.iter().any(|slot| slot.wears_out())
     }
 
     /// What the transaction does.
     pub fn body(&self) -> Result<Body, NoMemory>
-        requires { is_worn_lem self.now ≡ false }
+        requires { client.is_worn self.now ≡ false }
         ensures { IfOk result (λ body. body ≡ body_of self.now) }
     {
         body_from(*self.items.allocator(), self.items.as_slice())
@@ -255,7 +256,7 @@ impl Slots {
 fn body_from(alloc: Global, slots: &[Slot]) -> Result<Body, NoMemory>
     requires few { length slots.now ≤ 32 }
     requires apart { Differ (keys_of slots.now) }
-    requires lasting { is_worn_lem slots.now ≡ false }
+    requires lasting { client.is_worn slots.now ≡ false }
     ensures { IfOk result (λ body. body ≡ body_of slots.now) }
 {
     let mut body = Body::new(alloc);

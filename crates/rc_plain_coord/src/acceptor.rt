@@ -1,6 +1,6 @@
 // The row of a coordinator that asks for a promise.
 ghost use Rattle.std.specs.Prelude.{◌≡◌, IfOk};
-ghost use Rattle.rc_protocol.specs.Coordinator.{promise_record as promise_record_lem, promises_at as promises_at_lem, on_ask as on_ask_lem};
+ghost use Rattle.rc_protocol.specs.Coordinator as coordinator_spec;
 ghost use Rattle.rc_plain_coord.specs.Rows.{Does};
 
 use crate::sending::{owner, refuse, tell};
@@ -13,7 +13,7 @@ use rc_record::{CoordDurable, Record};
 
 /// The record of a promise, where it rises.
 fn promise_record(tx: TxId, ballot: Ballot, promise: Ballot) -> Option<Record>
-    ensures { result ≡ promise_record_lem tx ballot promise }
+    ensures { result ≡ coordinator_spec.promise_record tx ballot promise }
 {
     if promise < ballot {
         Some(Record::Promised(tx, ballot))
@@ -32,7 +32,7 @@ fn promises_at(
     ballot: Ballot,
     out: &mut Messages,
 ) -> Result<Option<Record>, NoMemory>
-    ensures { IfOk result (λ written. Does (promises_at_lem cluster.now dc durable.now volatile.now tx ballot) written volatile.now out.old out.new) }
+    ensures { IfOk result (λ written. Does (coordinator_spec.promises_at cluster.now dc durable.now volatile.now tx ballot) written volatile.now out.old out.new) }
 {
     let report = report_of(durable.accepted.get(tx))?;
     let to = owner(cluster, ballot);
@@ -50,7 +50,7 @@ pub fn on_ask(
     ballot: Ballot,
     out: &mut Messages,
 ) -> Result<Option<Record>, NoMemory>
-    ensures { IfOk result (λ written. Does (on_ask_lem cluster.now dc durable.now volatile.now tx ballot) written volatile.now out.old out.new) }
+    ensures { IfOk result (λ written. Does (coordinator_spec.on_ask cluster.now dc durable.now volatile.now tx ballot) written volatile.now out.old out.new) }
 {
     if let Some(outcome) = durable.outcomes.get(tx) {
         tell(owner(cluster, ballot), tx, outcome, out)?;

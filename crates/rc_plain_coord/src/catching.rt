@@ -1,9 +1,11 @@
 // The rows of catch-up, by pages of outcomes.
 ghost use Rattle.std.specs.Prelude.{◌≡◌, ◌+◌, ◌==◌, ◌++◌, [], None, Some, length, if◌then◌else◌, OnOk, IfOk};
-ghost use Rattle.rc_ids.specs.Cluster.{is_dc as is_dc_lem};
+ghost use Rattle.rc_ids.specs.Cluster as cluster_spec;
 ghost use Rattle.rc_msg.specs.declared.msg.Msg.TheVariants.{CatchAsk};
-ghost use Rattle.rc_protocol.specs.Messages.{one, most_entries, coordinator as coordinator_lem};
-ghost use Rattle.rc_protocol.specs.Coordinator.{coord_stays, cursor_of, page_from, is_next_coord_page, undecided as undecided_lem, outcomes_record as outcomes_record_lem, asks_next_coord_page as asks_next_lem, takes_page as takes_page_lem, with_coord_cursor, do_catch, on_catch_ask as on_catch_ask_lem, on_catch_page as on_catch_page_lem};
+ghost use Rattle.rc_protocol.specs.Messages.{one, most_entries};
+ghost use Rattle.rc_protocol.specs.Messages as messages;
+ghost use Rattle.rc_protocol.specs.Coordinator.{coord_stays, cursor_of, page_from, is_next_coord_page, with_coord_cursor, do_catch};
+ghost use Rattle.rc_protocol.specs.Coordinator as coordinator_spec;
 ghost use Rattle.rc_plain_coord.specs.Rows.{Does};
 
 use crate::counts::{dc_count, is_dc};
@@ -17,7 +19,7 @@ use std::alloc::Global;
 
 /// Asks another coordinator for its outcomes from the place on to which its list was caught up with.
 fn asks(dc: DcId, volatile: &Volatile, other: DcId, out: &mut Messages) -> Result<(), NoMemory>
-    ensures { OnOk result (out.new ≡ out.old ++ (if other == dc then [] else one (coordinator_lem other) (CatchAsk (cursor_of volatile.now other)))) }
+    ensures { OnOk result (out.new ≡ out.old ++ (if other == dc then [] else one (messages.coordinator other) (CatchAsk (cursor_of volatile.now other)))) }
 {
     if other == dc {
         return Ok(());
@@ -50,7 +52,7 @@ pub fn on_catch_ask(
     place: u32,
     out: &mut Messages,
 ) -> Result<Option<Record>, NoMemory>
-    ensures { IfOk result (λ written. Does (on_catch_ask_lem dc durable.now volatile.now asker.now place) written volatile.now out.old out.new) }
+    ensures { IfOk result (λ written. Does (coordinator_spec.on_catch_ask dc durable.now volatile.now asker.now place) written volatile.now out.old out.new) }
 {
     let page = durable.outcomes.page(alloc, place)?;
     out.push(*asker, &Msg::CatchPage(dc, place, page))?;
@@ -69,7 +71,7 @@ fn next_place(dc: DcId, volatile: &Volatile, from: DcId, place: u32, page: &Page
 
 /// The entries whose transactions have no outcome here.
 fn undecided(alloc: Global, outcomes: &Outcomes, page: &Page) -> Result<Page, NoMemory>
-    ensures { IfOk result (λ fresh. fresh ≡ undecided_lem outcomes.now page.now) }
+    ensures { IfOk result (λ fresh. fresh ≡ coordinator_spec.undecided outcomes.now page.now) }
 {
     let mut fresh = Page::new(alloc);
     for index in 0..page.len() {
@@ -83,7 +85,7 @@ fn undecided(alloc: Global, outcomes: &Outcomes, page: &Page) -> Result<Page, No
 
 /// One record for all that is new, where anything is.
 fn outcomes_record(fresh: Page) -> Option<Record>
-    ensures { result ≡ outcomes_record_lem fresh }
+    ensures { result ≡ coordinator_spec.outcomes_record fresh }
 {
     if fresh.is_empty() {
         None
@@ -94,7 +96,7 @@ fn outcomes_record(fresh: Page) -> Option<Record>
 
 /// After a full page the next one is asked for.
 fn asks_next(from: DcId, next: u32, page: &Page, out: &mut Messages) -> Result<(), NoMemory>
-    ensures { OnOk result (out.new ≡ out.old ++ (if length page.now == most_entries then one (coordinator_lem from) (CatchAsk next) else [])) }
+    ensures { OnOk result (out.new ≡ out.old ++ (if length page.now == most_entries then one (messages.coordinator from) (CatchAsk next) else [])) }
 {
     if page.len() != Page::MOST_ENTRIES {
         return Ok(());
@@ -116,7 +118,7 @@ fn takes_page(
     out: &mut Messages,
 ) -> Result<Option<Record>, NoMemory>
     requires { next ≡ place + length page.now }
-    ensures { IfOk result (λ written. Does (takes_page_lem cluster.now dc (with_coord_cursor volatile.old from (place + length page.now)) (undecided_lem durable.now.outcomes page.now) (asks_next_lem (coordinator_lem from) place page.now)) written volatile.new out.old out.new) }
+    ensures { IfOk result (λ written. Does (coordinator_spec.takes_page cluster.now dc (with_coord_cursor volatile.old from (place + length page.now)) (coordinator_spec.undecided durable.now.outcomes page.now) (coordinator_spec.asks_next_coord_page (messages.coordinator from) place page.now)) written volatile.new out.old out.new) }
 {
     let fresh = undecided(alloc, &durable.outcomes, page)?;
     finishes_all(cluster, dc, &fresh, out)?;
@@ -138,7 +140,7 @@ pub fn on_catch_page(
     page: &Page,
     out: &mut Messages,
 ) -> Result<Option<Record>, NoMemory>
-    ensures { IfOk result (λ written. Does (if is_dc_lem cluster.now from then on_catch_page_lem cluster.now dc durable.now volatile.old from place page.now else coord_stays volatile.old) written volatile.new out.old out.new) }
+    ensures { IfOk result (λ written. Does (if cluster_spec.is_dc cluster.now from then coordinator_spec.on_catch_page cluster.now dc durable.now volatile.old from place page.now else coord_stays volatile.old) written volatile.new out.old out.new) }
 {
     if !is_dc(cluster, from) {
         return Ok(None);

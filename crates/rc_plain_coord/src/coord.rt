@@ -6,7 +6,7 @@ ghost use Rattle.rc_record.specs.CoordState.{new_durable, coord_applied};
 ghost use Rattle.rc_record.specs.declared.record.Record.{Record as RecordOf};
 ghost use Rattle.rc_protocol.specs.Coordinator.{coord_row, do_take, do_catch};
 ghost use Rattle.rc_protocol.specs.Nodes.{CoordNode, coord_started, coord_stopped, coord_replayed, logged, applied};
-ghost use Rattle.rc_protocol.specs.Nodes.{is_vote as is_vote_lem};
+ghost use Rattle.rc_protocol.specs.Nodes as nodes;
 ghost use Rattle.rc_plain_coord.specs.Rows.{Handled, Spent};
 ghost use Rattle.rc_plain_coord.specs.declared.fault.CoordFault.TheVariants.{BallotsSpent};
 
@@ -47,7 +47,7 @@ impl Model for Coord {
 
 /// Whether the record is a vote for the outcome at the ballot.
 fn is_vote(entry: &Record, outcome: Outcome, tx: TxId, ballot: Ballot) -> bool
-    ensures { result ≡ is_vote_lem outcome tx ballot entry.now }
+    ensures { result ≡ nodes.is_vote outcome tx ballot entry.now }
 {
     match (entry, outcome) {
         (Record::Accepted(voted, at, Decision::Commit(_)), Outcome::Commit) => *voted == tx
@@ -248,7 +248,7 @@ impl Coord {
 
     /// Whether the log has a vote of the transaction for the outcome at the ballot.
     pub fn has_vote(&self, outcome: Outcome, tx: TxId, ballot: Ballot) -> bool
-        ensures { result ≡ list_any (is_vote_lem outcome tx ballot) self.now.log }
+        ensures { result ≡ list_any (nodes.is_vote outcome tx ballot) self.now.log }
     {
         self.log
             .iter()

@@ -3,7 +3,8 @@ ghost use Rattle.std.specs.Prelude.{◌≡◌, ◌≤◌, ◌&&◌, ◌||◌, no
 ghost use Rattle.std.specs.List.{list_all};
 ghost use Rattle.std.specs.Ordering.{nat_cmp};
 ghost use Rattle.rc_ids.specs.Tables.{member};
-ghost use Rattle.rc_ids.specs.Cluster.{all_dcs, is_dc as is_dc_lem, is_shard as is_shard_lem};
+ghost use Rattle.rc_ids.specs.Cluster.{all_dcs};
+ghost use Rattle.rc_ids.specs.Cluster as cluster_spec;
 ghost use Rattle.rc_body.specs.Bodies.{touches, touched};
 
 use rc_body::Body;
@@ -27,14 +28,14 @@ pub fn shard_count(cluster: &Cluster) -> u8
 
 /// Whether the datacentre is in the world.
 pub fn is_dc(cluster: &Cluster, dc: DcId) -> bool
-    ensures { result ≡ is_dc_lem cluster.now dc }
+    ensures { result ≡ cluster_spec.is_dc cluster.now dc }
 {
     1 <= dc.0 && dc.0 <= cluster.dcs()
 }
 
 /// Whether a datacentre of the world has the shard.
 pub fn is_shard(cluster: &Cluster, shard: ShardId) -> bool
-    ensures { result ≡ is_shard_lem cluster.now shard }
+    ensures { result ≡ cluster_spec.is_shard cluster.now shard }
 {
     1 <= shard.0 && shard.0 <= cluster.shards()
 }

@@ -2,9 +2,11 @@
 ghost use Rattle.std.specs.Prelude.{◌≡◌, ◌&&◌, not, [], OnOk, IfOk};
 ghost use Rattle.std.specs.Option.{option_copied};
 ghost use Rattle.std.specs.Ordering.{nat_cmp};
-ghost use Rattle.rc_ids.specs.Tables.{found, put as put_lem, without, member};
+ghost use Rattle.rc_ids.specs.Tables.{found, without, member};
+ghost use Rattle.rc_ids.specs.Tables as tables;
 ghost use Rattle.rc_body.specs.Bodies.{touches};
-ghost use Rattle.rc_protocol.specs.Coordinator.{GatherState as GatherOf, has_all as has_all_lem, with_yes};
+ghost use Rattle.rc_protocol.specs.Coordinator.{GatherState as GatherOf, with_yes};
+ghost use Rattle.rc_protocol.specs.Coordinator as coordinator;
 
 use crate::counts::has_all;
 use rc_body::Body;
@@ -55,7 +57,7 @@ impl Gather {
 
     /// Whether each touched shard said yes.
     pub fn has_all(&self, cluster: &Cluster) -> bool
-        ensures { result ≡ has_all_lem cluster.now self.now }
+        ensures { result ≡ coordinator.has_all cluster.now self.now }
     {
         has_all(cluster, &self.body, &self.yes)
     }
@@ -122,7 +124,7 @@ impl Gathers {
     }
 
     pub fn put(&mut self, tx: TxId, gather: Gather) -> Result<(), NoMemory>
-        ensures { OnOk result (self.new ≡ put_lem nat_cmp self.old tx gather) }
+        ensures { OnOk result (self.new ≡ tables.put nat_cmp self.old tx gather) }
     {
         self.map.insert(tx, gather)?;
         Ok(())

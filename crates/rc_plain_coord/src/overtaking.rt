@@ -1,8 +1,9 @@
 // The rows that open and drive a take-over.
 ghost use Rattle.std.specs.Prelude.{◌≡◌, IsTrue, if◌then◌else◌, IfOk, IsErrOf};
 ghost use Rattle.std.specs.Option.{option_copied};
-ghost use Rattle.rc_ids.specs.Cluster.{is_dc as is_dc_lem};
-ghost use Rattle.rc_protocol.specs.Coordinator.{coord_stays, opens as opens_lem, takes_over as takes_over_lem, waiting_takeover as waiting_takeover_lem, proposes_or_waits as goes_on_lem, on_promise as on_promise_lem, on_abandon as on_abandon_lem, do_take};
+ghost use Rattle.rc_ids.specs.Cluster as cluster_spec;
+ghost use Rattle.rc_protocol.specs.Coordinator.{coord_stays, do_take};
+ghost use Rattle.rc_protocol.specs.Coordinator as coordinator;
 ghost use Rattle.rc_plain_coord.specs.Rows.{Does, Spares};
 ghost use Rattle.rc_plain_coord.specs.declared.fault.CoordFault.TheVariants.{BallotsSpent};
 
@@ -24,7 +25,7 @@ fn opens(
     ballot: Ballot,
     out: &mut Messages,
 ) -> Result<Option<Record>, NoMemory>
-    ensures { IfOk result (λ written. Does (opens_lem cluster.now volatile.old tx is_eager ballot) written volatile.new out.old out.new) }
+    ensures { IfOk result (λ written. Does (coordinator.opens cluster.now volatile.old tx is_eager ballot) written volatile.new out.old out.new) }
 {
     volatile.keep_takeover(tx, TakeOver::opening(ballot, is_eager))?;
     to_all(cluster, &Msg::Ask(tx, ballot), out)?;
@@ -40,9 +41,9 @@ fn takes_over(
     is_eager: bool,
     out: &mut Messages,
 ) -> Result<Option<Record>, CoordFault>
-    requires { IsTrue (is_dc_lem cluster.now dc) }
-    ensures ok { IfOk result (λ written. Does (takes_over_lem cluster.now dc durable.now volatile.old tx is_eager) written volatile.new out.old out.new) }
-    ensures spent { IsErrOf result BallotsSpent → Spares (takes_over_lem cluster.now dc durable.now volatile.old tx is_eager) volatile.old volatile.new out.old out.new }
+    requires { IsTrue (cluster_spec.is_dc cluster.now dc) }
+    ensures ok { IfOk result (λ written. Does (coordinator.takes_over cluster.now dc durable.now volatile.old tx is_eager) written volatile.new out.old out.new) }
+    ensures spent { IsErrOf result BallotsSpent → Spares (coordinator.takes_over cluster.now dc durable.now volatile.old tx is_eager) volatile.old volatile.new out.old out.new }
 {
     match cluster.next_ballot(dc, durable.promises.get(tx)) {
         Some(ballot) => Ok(opens(cluster, volatile, tx, is_eager, ballot, out)?),
@@ -59,9 +60,9 @@ pub fn on_abandon(
     tx: TxId,
     out: &mut Messages,
 ) -> Result<Option<Record>, CoordFault>
-    requires { IsTrue (is_dc_lem cluster.now dc) }
-    ensures ok { IfOk result (λ written. Does (on_abandon_lem cluster.now dc durable.now volatile.old tx) written volatile.new out.old out.new) }
-    ensures spent { IsErrOf result BallotsSpent → Spares (on_abandon_lem cluster.now dc durable.now volatile.old tx) volatile.old volatile.new out.old out.new }
+    requires { IsTrue (cluster_spec.is_dc cluster.now dc) }
+    ensures ok { IfOk result (λ written. Does (coordinator.on_abandon cluster.now dc durable.now volatile.old tx) written volatile.new out.old out.new) }
+    ensures spent { IsErrOf result BallotsSpent → Spares (coordinator.on_abandon cluster.now dc durable.now volatile.old tx) volatile.old volatile.new out.old out.new }
 {
     match durable.outcomes.get(tx) {
         Some(outcome) => {
@@ -81,7 +82,7 @@ pub fn take(
     tx: TxId,
     out: &mut Messages,
 ) -> Result<Option<Record>, CoordFault>
-    requires { IsTrue (is_dc_lem cluster.now dc) }
+    requires { IsTrue (cluster_spec.is_dc cluster.now dc) }
     ensures ok { IfOk result (λ written. Does (do_take cluster.now dc durable.now volatile.old tx) written volatile.new out.old out.new) }
     ensures spent { IsErrOf result BallotsSpent → Spares (do_take cluster.now dc durable.now volatile.old tx) volatile.old volatile.new out.old out.new }
 {
@@ -102,7 +103,7 @@ fn waiting_takeover<'a>(
     ballot: Ballot,
     from: DcId,
 ) -> Option<&'a TakeOver>
-    ensures { option_copied result ≡ waiting_takeover_lem durable.now volatile.now tx ballot from }
+    ensures { option_copied result ≡ coordinator.waiting_takeover durable.now volatile.now tx ballot from }
 {
     if durable.outcomes.get(tx).is_some() {
         return None;
@@ -121,7 +122,7 @@ fn goes_on(
     takeover: TakeOver,
     out: &mut Messages,
 ) -> Result<Option<Record>, NoMemory>
-    ensures { IfOk result (λ written. Does (goes_on_lem cluster.now volatile.old tx takeover) written volatile.new out.old out.new) }
+    ensures { IfOk result (λ written. Does (coordinator.proposes_or_waits cluster.now volatile.old tx takeover) written volatile.new out.old out.new) }
 {
     match takeover.chooses(cluster)? {
         Some(decision) => {
@@ -147,7 +148,7 @@ pub fn on_promise(
     report: &Option<(Ballot, Decision)>,
     out: &mut Messages,
 ) -> Result<Option<Record>, NoMemory>
-    ensures { IfOk result (λ written. Does (if is_dc_lem cluster.now from then on_promise_lem cluster.now durable.now volatile.old tx ballot from report.now else coord_stays volatile.old) written volatile.new out.old out.new) }
+    ensures { IfOk result (λ written. Does (if cluster_spec.is_dc cluster.now from then coordinator.on_promise cluster.now durable.now volatile.old tx ballot from report.now else coord_stays volatile.old) written volatile.new out.old out.new) }
 {
     if !is_dc(cluster, from) {
         return Ok(None);

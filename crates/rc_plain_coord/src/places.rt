@@ -1,7 +1,8 @@
 // Places in the lists of other coordinators.
 ghost use Rattle.std.specs.Prelude.{◌≡◌, [], OnOk};
 ghost use Rattle.std.specs.Ordering.{nat_cmp};
-ghost use Rattle.rc_ids.specs.Tables.{found, put as put_lem, maybe};
+ghost use Rattle.rc_ids.specs.Tables.{found, maybe};
+ghost use Rattle.rc_ids.specs.Tables as tables;
 
 use rc_ids::{DcId, NoMemory};
 use std::alloc::Global;
@@ -43,7 +44,7 @@ impl Places {
     }
 
     pub fn put(&mut self, dc: DcId, place: u32) -> Result<(), NoMemory>
-        ensures { OnOk result (self.new ≡ put_lem nat_cmp self.old dc place) }
+        ensures { OnOk result (self.new ≡ tables.put nat_cmp self.old dc place) }
     {
         self.map.insert(dc, place)?;
         Ok(())

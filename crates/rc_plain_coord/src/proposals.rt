@@ -3,9 +3,10 @@ ghost use Rattle.std.specs.Prelude.{◌≡◌, ◌++◌, Some, if◌then◌else�
 ghost use Rattle.std.specs.Option.{option_copied};
 ghost use Rattle.std.specs.Ordering.{nat_cmp};
 ghost use Rattle.rc_ids.specs.Tables.{found};
-ghost use Rattle.rc_ids.specs.Cluster.{is_shard as is_shard_lem};
+ghost use Rattle.rc_ids.specs.Cluster as cluster_spec;
 ghost use Rattle.rc_body.specs.declared.decision.Decision.TheVariants.{Commit};
-ghost use Rattle.rc_protocol.specs.Coordinator.{GatherState as GatherOf, vote as vote_lem, accepts as accepts_lem, gathers_on as gathers_on_lem, takes_proposal as takes_proposal_lem, on_propose as on_propose_lem, waiting_gather as waiting_gather_lem, said_yes as said_yes_lem, on_prepared as on_prepared_lem, with_gather, accepted_at as accepted_at_lem, coord_stays};
+ghost use Rattle.rc_protocol.specs.Coordinator.{GatherState as GatherOf, with_gather, coord_stays};
+ghost use Rattle.rc_protocol.specs.Coordinator as coordinator;
 ghost use Rattle.rc_plain_coord.specs.Rows.{Does};
 
 use crate::counts::is_shard;
@@ -27,7 +28,7 @@ fn accepts(
     decision: Decision,
     out: &mut Messages,
 ) -> Result<Option<Record>, NoMemory>
-    ensures { IfOk result (λ written. Does (accepts_lem cluster.now dc volatile.now tx ballot decision) written volatile.now out.old out.new) }
+    ensures { IfOk result (λ written. Does (coordinator.accepts cluster.now dc volatile.now tx ballot decision) written volatile.now out.old out.new) }
 {
     vote(cluster, dc, tx, ballot, &decision, out)?;
     Ok(Some(Record::Accepted(tx, ballot, decision)))
@@ -42,7 +43,7 @@ fn accepts_gather(
     gather: Gather,
     out: &mut Messages,
 ) -> Result<Option<Record>, NoMemory>
-    ensures { IfOk result (λ written. Does (accepts_lem cluster.now dc (with_gather volatile.old tx gather) tx gather.ballot (Commit gather.body)) written volatile.new out.old out.new) }
+    ensures { IfOk result (λ written. Does (coordinator.accepts cluster.now dc (with_gather volatile.old tx gather) tx gather.ballot (Commit gather.body)) written volatile.new out.old out.new) }
 {
     let ballot = gather.ballot();
     let decision = Decision::Commit(gather.body().copy()?);
@@ -58,7 +59,7 @@ fn gathers_on(
     gather: Gather,
     out: &mut Messages,
 ) -> Result<Option<Record>, NoMemory>
-    ensures { IfOk result (λ written. Does (gathers_on_lem cluster.now dc volatile.old tx gather) written volatile.new out.old out.new) }
+    ensures { IfOk result (λ written. Does (coordinator.gathers_on cluster.now dc volatile.old tx gather) written volatile.new out.old out.new) }
 {
     if gather.has_all(cluster) {
         return accepts_gather(cluster, dc, volatile, tx, gather, out);
@@ -77,7 +78,7 @@ fn takes_proposal(
     decision: &Decision,
     out: &mut Messages,
 ) -> Result<Option<Record>, NoMemory>
-    ensures { IfOk result (λ written. Does (takes_proposal_lem cluster.now dc volatile.old tx ballot decision.now) written volatile.new out.old out.new) }
+    ensures { IfOk result (λ written. Does (coordinator.takes_proposal cluster.now dc volatile.old tx ballot decision.now) written volatile.new out.old out.new) }
 {
     match decision {
         Decision::Abort => accepts(cluster, dc, volatile, tx, ballot, Decision::Abort, out),
@@ -90,7 +91,7 @@ fn takes_proposal(
 
 /// What was accepted for a transaction last, if that was at this ballot.
 fn accepted_at(durable: &CoordDurable, tx: TxId, ballot: Ballot) -> Option<&Decision>
-    ensures { option_copied result ≡ accepted_at_lem (found nat_cmp durable.now.accepted tx) ballot }
+    ensures { option_copied result ≡ coordinator.accepted_at (found nat_cmp durable.now.accepted tx) ballot }
 {
     match durable.accepted.get(tx) {
         Some(accepted) if accepted.0 == ballot => Some(&accepted.1),
@@ -109,7 +110,7 @@ pub fn on_propose(
     decision: &Decision,
     out: &mut Messages,
 ) -> Result<Option<Record>, NoMemory>
-    ensures { IfOk result (λ written. Does (on_propose_lem cluster.now dc durable.now volatile.old tx ballot decision.now) written volatile.new out.old out.new) }
+    ensures { IfOk result (λ written. Does (coordinator.on_propose cluster.now dc durable.now volatile.old tx ballot decision.now) written volatile.new out.old out.new) }
 {
     if let Some(outcome) = durable.outcomes.get(tx) {
         tell(proposer(cluster, tx, ballot), tx, outcome, out)?;
@@ -138,7 +139,7 @@ fn waiting_gather<'a>(
     tx: TxId,
     shard: ShardId,
 ) -> Option<&'a Gather>
-    ensures { option_copied result ≡ waiting_gather_lem cluster.now durable.now volatile.now tx shard }
+    ensures { option_copied result ≡ coordinator.waiting_gather cluster.now durable.now volatile.now tx shard }
 {
     if durable.outcomes.get(tx).is_some() {
         return None;
@@ -158,7 +159,7 @@ fn said_yes(
     gather: Gather,
     out: &mut Messages,
 ) -> Result<Option<Record>, NoMemory>
-    ensures { IfOk result (λ written. Does (said_yes_lem cluster.now dc durable.now volatile.old tx gather) written volatile.new out.old out.new) }
+    ensures { IfOk result (λ written. Does (coordinator.said_yes cluster.now dc durable.now volatile.old tx gather) written volatile.new out.old out.new) }
 {
     if !gather.has_all(cluster) {
         volatile.keep_gather(tx, gather)?;
@@ -186,7 +187,7 @@ pub fn on_prepared(
     reason: &Option<Reason>,
     out: &mut Messages,
 ) -> Result<Option<Record>, NoMemory>
-    ensures { IfOk result (λ written. Does (if is_shard_lem cluster.now shard then on_prepared_lem cluster.now dc durable.now volatile.old tx shard reason.now else coord_stays volatile.old) written volatile.new out.old out.new) }
+    ensures { IfOk result (λ written. Does (if cluster_spec.is_shard cluster.now shard then coordinator.on_prepared cluster.now dc durable.now volatile.old tx shard reason.now else coord_stays volatile.old) written volatile.new out.old out.new) }
 {
     if !is_shard(cluster, shard) {
         return Ok(None);

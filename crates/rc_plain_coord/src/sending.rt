@@ -2,8 +2,10 @@
 ghost use Rattle.std.specs.Prelude.{◌≡◌, ℕ, ◌≤◌, ◌++◌, OnOk};
 ghost use Rattle.rc_ids.specs.Cluster.{owner_of};
 ghost use Rattle.rc_msg.specs.declared.msg.Msg.TheVariants.{Refused, Decided, Propose, Finish, Prepare};
-ghost use Rattle.rc_protocol.specs.Messages.{coordinator as coordinator_lem, shard_server as shard_server_lem, client_of, one, to_each, to_all as to_all_lem};
-ghost use Rattle.rc_protocol.specs.Coordinator.{GatherState as GatherOf, proposer as proposer_lem, vote as vote_lem, finish_to as finish_to_lem, finish_posts as finishes_lem, finish_all_posts as finishes_all_lem, prepare_to as prepare_to_lem};
+ghost use Rattle.rc_protocol.specs.Messages.{client_of, one, to_each};
+ghost use Rattle.rc_protocol.specs.Messages as messages;
+ghost use Rattle.rc_protocol.specs.Coordinator.{GatherState as GatherOf};
+ghost use Rattle.rc_protocol.specs.Coordinator as coordinator_spec;
 
 use crate::counts::{dc_count, shard_count};
 use crate::gather::Gather;
@@ -12,20 +14,20 @@ use rc_ids::{Ballot, Cluster, DcId, NoMemory, NodeId, Party, ShardId, TxId};
 use rc_msg::{Messages, Msg};
 
 pub fn coordinator(dc: DcId) -> Party
-    ensures { result ≡ coordinator_lem dc }
+    ensures { result ≡ messages.coordinator dc }
 {
     Party::Node(NodeId::Coord(dc))
 }
 
 pub fn shard_server(dc: DcId, shard: ShardId) -> Party
-    ensures { result ≡ shard_server_lem dc shard }
+    ensures { result ≡ messages.shard_server dc shard }
 {
     Party::Node(NodeId::Shard(dc, shard))
 }
 
 /// The coordinator whose the ballot is.
 pub fn owner(cluster: &Cluster, ballot: Ballot) -> Party
-    ensures { result ≡ coordinator_lem (owner_of cluster.now ballot) }
+    ensures { result ≡ messages.coordinator (owner_of cluster.now ballot) }
 {
     match cluster.owner(ballot) {
         Some(dc) => coordinator(dc),
@@ -35,7 +37,7 @@ pub fn owner(cluster: &Cluster, ballot: Ballot) -> Party
 
 /// Who proposes at the ballot: the client at ballot 0, else the coordinator whose it is.
 pub fn proposer(cluster: &Cluster, tx: TxId, ballot: Ballot) -> Party
-    ensures { result ≡ proposer_lem cluster.now tx ballot }
+    ensures { result ≡ coordinator_spec.proposer cluster.now tx ballot }
 {
     match cluster.owner(ballot) {
         Some(dc) => coordinator(dc),
@@ -45,7 +47,7 @@ pub fn proposer(cluster: &Cluster, tx: TxId, ballot: Ballot) -> Party
 
 /// Sends the message to the coordinators of all datacentres.
 pub fn to_all(cluster: &Cluster, msg: &Msg, out: &mut Messages) -> Result<(), NoMemory>
-    ensures { OnOk result (out.new ≡ out.old ++ to_all_lem cluster.now msg.now) }
+    ensures { OnOk result (out.new ≡ out.old ++ messages.to_all cluster.now msg.now) }
 {
     for place in 0..dc_count(cluster) {
         out.push(coordinator(DcId(place + 1)), msg)?;
@@ -62,7 +64,7 @@ pub fn vote(
     decision: &Decision,
     out: &mut Messages,
 ) -> Result<(), NoMemory>
-    ensures { OnOk result (out.new ≡ out.old ++ vote_lem cluster.now dc tx ballot decision.now) }
+    ensures { OnOk result (out.new ≡ out.old ++ coordinator_spec.vote cluster.now dc tx ballot decision.now) }
 {
     let msg = Msg::Voted(tx, ballot, dc, decision.copy()?);
     to_all(cluster, &msg, out)?;
@@ -98,7 +100,7 @@ pub fn propose(
     decision: Decision,
     out: &mut Messages,
 ) -> Result<(), NoMemory>
-    ensures { OnOk result (out.new ≡ out.old ++ to_all_lem cluster.now (Propose tx ballot decision)) }
+    ensures { OnOk result (out.new ≡ out.old ++ messages.to_all cluster.now (Propose tx ballot decision)) }
 {
     to_all(cluster, &Msg::Propose(tx, ballot, decision), out)
 }
@@ -110,7 +112,7 @@ fn finish(
     shard: ShardId,
     out: &mut Messages,
 ) -> Result<(), NoMemory>
-    ensures { OnOk result (out.new ≡ out.old ++ one (shard_server_lem dc shard) (Finish tx decision)) }
+    ensures { OnOk result (out.new ≡ out.old ++ one (messages.shard_server dc shard) (Finish tx decision)) }
 {
     out.push(shard_server(dc, shard), &Msg::Finish(tx, decision))
 }
@@ -122,7 +124,7 @@ fn prepare(
     shard: ShardId,
     out: &mut Messages,
 ) -> Result<(), NoMemory>
-    ensures { OnOk result (out.new ≡ out.old ++ one (shard_server_lem dc shard) (Prepare tx part)) }
+    ensures { OnOk result (out.new ≡ out.old ++ one (messages.shard_server dc shard) (Prepare tx part)) }
 {
     out.push(shard_server(dc, shard), &Msg::Prepare(tx, part))
 }
@@ -136,7 +138,7 @@ fn finish_to(
     shard: ShardId,
     out: &mut Messages,
 ) -> Result<(), NoMemory>
-    ensures { OnOk result (out.new ≡ out.old ++ finish_to_lem cluster.now dc tx decision.now shard) }
+    ensures { OnOk result (out.new ≡ out.old ++ coordinator_spec.finish_to cluster.now dc tx decision.now shard) }
 {
     match decision {
         Decision::Abort => finish(dc, tx, Decision::Abort, shard, out),
@@ -158,7 +160,7 @@ pub fn finishes(
     decision: &Decision,
     out: &mut Messages,
 ) -> Result<(), NoMemory>
-    ensures { OnOk result (out.new ≡ out.old ++ finishes_lem cluster.now dc tx decision.now) }
+    ensures { OnOk result (out.new ≡ out.old ++ coordinator_spec.finish_posts cluster.now dc tx decision.now) }
 {
     for place in 0..shard_count(cluster) {
         finish_to(cluster, dc, tx, decision, ShardId(place + 1), out)?;
@@ -173,7 +175,7 @@ pub fn finishes_all(
     page: &Page,
     out: &mut Messages,
 ) -> Result<(), NoMemory>
-    ensures { OnOk result (out.new ≡ out.old ++ finishes_all_lem cluster.now dc page.now) }
+    ensures { OnOk result (out.new ≡ out.old ++ coordinator_spec.finish_all_posts cluster.now dc page.now) }
 {
     for index in 0..page.len() {
         let (tx, decision) = page.entry(index);
@@ -191,7 +193,7 @@ fn prepare_to(
     shard: ShardId,
     out: &mut Messages,
 ) -> Result<(), NoMemory>
-    ensures { OnOk result (out.new ≡ out.old ++ prepare_to_lem cluster.now dc tx gather.now shard) }
+    ensures { OnOk result (out.new ≡ out.old ++ coordinator_spec.prepare_to cluster.now dc tx gather.now shard) }
 {
     if !gather.waits_for(cluster, shard) {
         return Ok(());
@@ -208,7 +210,7 @@ pub fn prepares(
     gather: &Gather,
     out: &mut Messages,
 ) -> Result<(), NoMemory>
-    ensures { OnOk result (out.new ≡ out.old ++ to_each cluster.now.shards (prepare_to_lem cluster.now dc tx gather.now)) }
+    ensures { OnOk result (out.new ≡ out.old ++ to_each cluster.now.shards (coordinator_spec.prepare_to cluster.now dc tx gather.now)) }
 {
     for place in 0..shard_count(cluster) {
         prepare_to(cluster, dc, tx, gather, ShardId(place + 1), out)?;

@@ -3,7 +3,8 @@ ghost use Rattle.std.specs.Prelude.{◌≡◌, ◌==◌, ◌&&◌, not, is_some,
 ghost use Rattle.std.specs.Option.{option_copied};
 ghost use Rattle.std.specs.Ordering.{nat_cmp};
 ghost use Rattle.rc_ids.specs.Tables.{member, added};
-ghost use Rattle.rc_protocol.specs.Coordinator.{opening, better as better_lem, hears as hears_lem, best_or_abort as best_or_abort_lem, chooses as chooses_lem, chooses_eagerly as chooses_eagerly_lem, chooses_patiently as chooses_patiently_lem, proposed as proposed_lem};
+ghost use Rattle.rc_protocol.specs.Coordinator.{opening};
+ghost use Rattle.rc_protocol.specs.Coordinator as coordinator;
 
 use crate::counts::hears_all;
 use rc_body::Decision;
@@ -35,7 +36,7 @@ fn better<'a>(
     best: &'a Option<(Ballot, Decision)>,
     report: &'a Option<(Ballot, Decision)>,
 ) -> &'a Option<(Ballot, Decision)>
-    ensures { result.now ≡ better_lem best.now report.now }
+    ensures { result.now ≡ coordinator.better best.now report.now }
 {
     let Some(new) = report else {
         return best;
@@ -70,7 +71,7 @@ fn copied(report: &Option<(Ballot, Decision)>) -> Result<Option<(Ballot, Decisio
 
 /// What was reported, or abort where nothing was.
 fn best_or_abort(best: &Option<(Ballot, Decision)>) -> Result<Decision, NoMemory>
-    ensures { IfOk result (λ d. d ≡ best_or_abort_lem best.now) }
+    ensures { IfOk result (λ d. d ≡ coordinator.best_or_abort best.now) }
 {
     match best {
         Some((_, decision)) => decision.copy(),
@@ -122,7 +123,7 @@ impl TakeOver {
         from: DcId,
         report: &Option<(Ballot, Decision)>,
     ) -> Result<TakeOver, NoMemory>
-        ensures { IfOk result (λ k. k ≡ hears_lem self.now from report.now) }
+        ensures { IfOk result (λ k. k ≡ coordinator.hears self.now from report.now) }
     {
         Ok(TakeOver {
             ballot: self.ballot,
@@ -136,7 +137,7 @@ impl TakeOver {
 
     /// What an eager one proposes: the best report, or abort where there is none, once a quorum was heard.
     fn chooses_eagerly(&self, cluster: &Cluster) -> Result<Option<Decision>, NoMemory>
-        ensures { IfOk result (λ d. d ≡ chooses_eagerly_lem cluster.now self.now) }
+        ensures { IfOk result (λ d. d ≡ coordinator.chooses_eagerly cluster.now self.now) }
     {
         if cluster.quorum().holds(self.heard) {
             return Ok(Some(best_or_abort(&self.best)?));
@@ -146,7 +147,7 @@ impl TakeOver {
 
     /// What a patient one proposes: abort once a quorum reported nothing, the best report once all were heard.
     fn chooses_patiently(&self, cluster: &Cluster) -> Result<Option<Decision>, NoMemory>
-        ensures { IfOk result (λ d. d ≡ chooses_patiently_lem cluster.now self.now) }
+        ensures { IfOk result (λ d. d ≡ coordinator.chooses_patiently cluster.now self.now) }
     {
         if cluster.quorum().holds(self.silent) {
             return Ok(Some(Decision::Abort));
@@ -159,7 +160,7 @@ impl TakeOver {
 
     /// What is to be proposed, if it is time to.
     pub fn chooses(&self, cluster: &Cluster) -> Result<Option<Decision>, NoMemory>
-        ensures { IfOk result (λ d. d ≡ chooses_lem cluster.now self.now) }
+        ensures { IfOk result (λ d. d ≡ coordinator.chooses cluster.now self.now) }
     {
         if self.is_eager {
             self.chooses_eagerly(cluster)
@@ -170,7 +171,7 @@ impl TakeOver {
 
     /// The same after it proposed.
     pub fn proposed(self) -> TakeOver
-        ensures { result ≡ proposed_lem self }
+        ensures { result ≡ coordinator.proposed self }
     {
         TakeOver {
             ballot: self.ballot,

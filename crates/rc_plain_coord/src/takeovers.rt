@@ -2,7 +2,8 @@
 ghost use Rattle.std.specs.Prelude.{◌≡◌, [], OnOk};
 ghost use Rattle.std.specs.Option.{option_copied};
 ghost use Rattle.std.specs.Ordering.{nat_cmp};
-ghost use Rattle.rc_ids.specs.Tables.{found, put as put_lem, without};
+ghost use Rattle.rc_ids.specs.Tables.{found, without};
+ghost use Rattle.rc_ids.specs.Tables as tables;
 
 use crate::takeover::TakeOver;
 use rc_ids::{NoMemory, TxId};
@@ -42,7 +43,7 @@ impl TakeOvers {
     }
 
     pub fn put(&mut self, tx: TxId, takeover: TakeOver) -> Result<(), NoMemory>
-        ensures { OnOk result (self.new ≡ put_lem nat_cmp self.old tx takeover) }
+        ensures { OnOk result (self.new ≡ tables.put nat_cmp self.old tx takeover) }
     {
         self.map.insert(tx, takeover)?;
         Ok(())

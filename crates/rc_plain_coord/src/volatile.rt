@@ -3,7 +3,8 @@ ghost use Rattle.std.specs.Prelude.{◌≡◌, OnOk, IfOk, max};
 ghost use Rattle.std.specs.Option.{option_copied};
 ghost use Rattle.std.specs.Ordering.{nat_cmp};
 ghost use Rattle.rc_ids.specs.Tables.{found};
-ghost use Rattle.rc_protocol.specs.Coordinator.{new_volatile, gather_at as gather_at_lem, with_gather, with_takeover, with_vote, forgotten, tally_of, is_decided_by, cursor_of, with_coord_cursor, forgotten_all};
+ghost use Rattle.rc_protocol.specs.Coordinator.{new_volatile, with_gather, with_takeover, with_vote, forgotten, tally_of, is_decided_by, cursor_of, with_coord_cursor, forgotten_all};
+ghost use Rattle.rc_protocol.specs.Coordinator as coordinator_spec;
 
 use crate::gather::{Gather, Gathers};
 use crate::places::Places;
@@ -52,7 +53,7 @@ impl Volatile {
 
     /// The gather of a proposal: a new one, or the one that is there at the larger ballot.
     pub fn gather_at(&self, tx: TxId, ballot: Ballot, body: &Body) -> Result<Gather, NoMemory>
-        ensures { IfOk result (λ g. g ≡ gather_at_lem self.now tx ballot body.now) }
+        ensures { IfOk result (λ g. g ≡ coordinator_spec.gather_at self.now tx ballot body.now) }
     {
         match self.gathers.get(tx) {
             Some(gather) => gather.at(larger(gather.ballot(), ballot)),

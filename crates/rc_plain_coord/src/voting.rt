@@ -1,7 +1,8 @@
 // The rows of votes and outcomes.
 ghost use Rattle.std.specs.Prelude.{◌≡◌, if◌then◌else◌, IfOk};
-ghost use Rattle.rc_ids.specs.Cluster.{is_dc as is_dc_lem};
-ghost use Rattle.rc_protocol.specs.Coordinator.{coord_stays, coord_learns as learns_lem, on_voted as on_voted_lem, on_decided as on_decided_lem};
+ghost use Rattle.rc_ids.specs.Cluster as cluster_spec;
+ghost use Rattle.rc_protocol.specs.Coordinator.{coord_stays};
+ghost use Rattle.rc_protocol.specs.Coordinator as coordinator;
 ghost use Rattle.rc_plain_coord.specs.Rows.{Does};
 
 use crate::counts::is_dc;
@@ -23,7 +24,7 @@ fn learns(
     decision: &Decision,
     out: &mut Messages,
 ) -> Result<Option<Record>, NoMemory>
-    ensures { IfOk result (λ written. Does (learns_lem cluster.now dc volatile.old tx decision.now) written volatile.new out.old out.new) }
+    ensures { IfOk result (λ written. Does (coordinator.coord_learns cluster.now dc volatile.old tx decision.now) written volatile.new out.old out.new) }
 {
     let page = Page::one(alloc, tx, decision.copy()?)?;
     finishes(cluster, dc, tx, decision, out)?;
@@ -44,7 +45,7 @@ pub fn on_voted(
     decision: &Decision,
     out: &mut Messages,
 ) -> Result<Option<Record>, NoMemory>
-    ensures { IfOk result (λ written. Does (if is_dc_lem cluster.now from then on_voted_lem cluster.now dc durable.now volatile.old tx ballot from decision.now else coord_stays volatile.old) written volatile.new out.old out.new) }
+    ensures { IfOk result (λ written. Does (if cluster_spec.is_dc cluster.now from then coordinator.on_voted cluster.now dc durable.now volatile.old tx ballot from decision.now else coord_stays volatile.old) written volatile.new out.old out.new) }
 {
     if !is_dc(cluster, from) || durable.outcomes.get(tx).is_some() {
         return Ok(None);
@@ -67,7 +68,7 @@ pub fn on_decided(
     decision: &Decision,
     out: &mut Messages,
 ) -> Result<Option<Record>, NoMemory>
-    ensures { IfOk result (λ written. Does (on_decided_lem cluster.now dc durable.now volatile.old tx decision.now) written volatile.new out.old out.new) }
+    ensures { IfOk result (λ written. Does (coordinator.on_decided cluster.now dc durable.now volatile.old tx decision.now) written volatile.new out.old out.new) }
 {
     if durable.outcomes.get(tx).is_some() {
         return Ok(None);

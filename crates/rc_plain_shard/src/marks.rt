@@ -1,7 +1,8 @@
 // Keys that transactions locked or lost.
 ghost use Rattle.std.specs.Prelude.{◌≡◌, [], not, filter, OnOk};
 ghost use Rattle.rc_ids.specs.Tables.{member, added};
-ghost use Rattle.rc_protocol.specs.Shard.{Mark, mark_cmp, cleared, is_other, is_taken, is_free as is_free_lem, added_all};
+ghost use Rattle.rc_protocol.specs.Shard.{Mark, mark_cmp, cleared, is_other, is_taken, added_all};
+ghost use Rattle.rc_protocol.specs.Shard as shard;
 
 use crate::entries::takes;
 use crate::parts::is_free;
@@ -81,7 +82,7 @@ impl Marks {
 
     /// Adds each waiting read whose key nobody holds exclusively.
     pub fn add_free(&mut self, waiting: &Waiting, parts: &PreparedParts) -> Result<(), NoMemory>
-        ensures { OnOk result (self.new ≡ added_all self.old (filter (is_free_lem parts.now) waiting.now)) }
+        ensures { OnOk result (self.new ≡ added_all self.old (filter (shard.is_free parts.now) waiting.now)) }
     {
         for mark in &waiting.marks {
             if is_free(parts, mark) {

@@ -2,7 +2,7 @@
 ghost use Rattle.std.specs.Prelude.{◌≡◌, ◌&&◌, is_none, IfOk};
 ghost use Rattle.std.specs.Ordering.{nat_cmp};
 ghost use Rattle.rc_ids.specs.Tables.{found};
-ghost use Rattle.rc_protocol.specs.Shard.{concerns as concerns_lem, cut_to_part as cut_to_part_lem, unfinished as unfinished_lem};
+ghost use Rattle.rc_protocol.specs.Shard as shard_spec;
 
 use crate::durable::Durable;
 use rc_body::{Decision, Page};
@@ -11,7 +11,7 @@ use std::alloc::Global;
 
 /// Whether the decision is an abort, or a commit with a key of the shard.
 fn concerns(cluster: &Cluster, shard: ShardId, decision: &Decision) -> bool
-    ensures { result ≡ concerns_lem cluster.now shard decision.now }
+    ensures { result ≡ shard_spec.concerns cluster.now shard decision.now }
 {
     match decision {
         Decision::Commit(body) => body.touches(cluster, shard),
@@ -21,7 +21,7 @@ fn concerns(cluster: &Cluster, shard: ShardId, decision: &Decision) -> bool
 
 /// What of the decision concerns the shard.
 fn cut_to_part(cluster: &Cluster, shard: ShardId, decision: &Decision) -> Result<Decision, NoMemory>
-    ensures { IfOk result (λ d. d ≡ cut_to_part_lem cluster.now shard decision.now) }
+    ensures { IfOk result (λ d. d ≡ shard_spec.cut_to_part cluster.now shard decision.now) }
 {
     match decision {
         Decision::Commit(body) => Ok(Decision::Commit(body.part(cluster, shard)?)),
@@ -37,7 +37,7 @@ fn is_new(
     tx: TxId,
     decision: &Decision,
 ) -> bool
-    ensures { result ≡ (is_none (found nat_cmp durable.now.finished tx) && concerns_lem cluster.now shard decision.now) }
+    ensures { result ≡ (is_none (found nat_cmp durable.now.finished tx) && shard_spec.concerns cluster.now shard decision.now) }
 {
     !durable.finished.has(tx) && concerns(cluster, shard, decision)
 }
@@ -50,7 +50,7 @@ pub fn unfinished(
     durable: &Durable,
     page: &Page,
 ) -> Result<Page, NoMemory>
-    ensures { IfOk result (λ left. left ≡ unfinished_lem cluster.now shard durable.now page.now) }
+    ensures { IfOk result (λ left. left ≡ shard_spec.unfinished cluster.now shard durable.now page.now) }
 {
     let mut left = Page::new(alloc);
     for index in 0..page.len() {

@@ -1,6 +1,6 @@
 // Who holds a key by the prepared parts of transactions.
 ghost use Rattle.std.specs.Prelude.{◌≡◌};
-ghost use Rattle.rc_protocol.specs.Shard.{holder as holder_lem, reader as reader_lem, is_free as is_free_lem};
+ghost use Rattle.rc_protocol.specs.Shard as shard;
 
 use crate::entries::writes_key;
 use crate::prepared::PreparedParts;
@@ -8,7 +8,7 @@ use rc_ids::{Key, TxId};
 
 /// Who holds the key exclusively: the least transaction whose part writes it.
 pub fn holder(parts: &PreparedParts, key: &Key) -> Option<TxId>
-    ensures { result ≡ holder_lem parts.now key.now }
+    ensures { result ≡ shard.holder parts.now key.now }
 {
     for (tx, part) in parts.as_map() {
         if writes_key(part, key) {
@@ -20,7 +20,7 @@ pub fn holder(parts: &PreparedParts, key: &Key) -> Option<TxId>
 
 /// The least transaction whose part has the key.
 pub fn reader(parts: &PreparedParts, key: &Key) -> Option<TxId>
-    ensures { result ≡ reader_lem parts.now key.now }
+    ensures { result ≡ shard.reader parts.now key.now }
 {
     for (tx, part) in parts.as_map() {
         if part.has(key) {
@@ -32,7 +32,7 @@ pub fn reader(parts: &PreparedParts, key: &Key) -> Option<TxId>
 
 /// Whether nobody holds the key of the mark exclusively.
 pub fn is_free(parts: &PreparedParts, mark: &(Key, TxId)) -> bool
-    ensures { result ≡ is_free_lem parts.now mark.now }
+    ensures { result ≡ shard.is_free parts.now mark.now }
 {
     holder(parts, &mark.0).is_none()
 }

@@ -3,10 +3,11 @@ ghost use Rattle.std.specs.Prelude.{◌≡◌, ◌+◌, ◌^◌, ◌<◌, [], �
 ghost use Rattle.rc_ids.specs.declared.names.NodeId.TheVariants.{Shard as ShardServer};
 ghost use Rattle.rc_record.specs.ShardState.{new_durable};
 ghost use Rattle.rc_record.specs.declared.record.Record.{Record as RecordState};
-ghost use Rattle.rc_protocol.specs.Shard.{do_catch, shard_row, ignores_ask, on_read_ask, on_read_cancel, on_prepare, on_finish, on_catch_page, is_next_shard_page, unfinished as unfinished_lem, test, takes_page, finishes_page, answers, asks_next_shard_page};
+ghost use Rattle.rc_protocol.specs.Shard.{do_catch, shard_row, ignores_ask, on_read_ask, on_read_cancel, on_prepare, on_finish, on_catch_page, is_next_shard_page, test, takes_page, finishes_page, answers, asks_next_shard_page};
+ghost use Rattle.rc_protocol.specs.Shard as shard_spec;
 ghost use Rattle.rc_protocol.specs.Nodes.{ShardNode, shard_replayed, shard_started, shard_stopped, shard_after};
 ghost use Rattle.rc_protocol.specs.Shown.{row_lines};
-ghost use Rattle.rc_ids.specs.Cluster.{is_dc as is_dc_lem};
+ghost use Rattle.rc_ids.specs.Cluster as cluster_spec;
 ghost use Rattle.std.specs.Ordering.{nat_cmp};
 ghost use Rattle.rc_ids.specs.Tables.{found};
 ghost use Rattle.rc_plain_shard.specs.Acts.{HasActed, placed};
@@ -44,7 +45,7 @@ impl Model for Shard {
 
 /// Whether the datacentre is of the world.
 fn is_dc(cluster: &Cluster, dc: DcId) -> bool
-    ensures { result ≡ is_dc_lem cluster.now dc }
+    ensures { result ≡ cluster_spec.is_dc cluster.now dc }
 {
     1 <= dc.0 && dc.0 <= cluster.dcs()
 }
@@ -308,7 +309,7 @@ impl Shard {
         shard: ShardId,
         page: &Page,
     ) -> Result<Page, NoMemory>
-        ensures { IfOk result (λ left. left ≡ unfinished_lem cluster.now shard self.now.durable page.now) }
+        ensures { IfOk result (λ left. left ≡ shard_spec.unfinished cluster.now shard self.now.durable page.now) }
     {
         unfinished(alloc, cluster, shard, self.log.durable(), page)
     }

@@ -6,7 +6,7 @@ ghost use Rattle.rc_ids.specs.declared.names.NodeId.TheVariants.{Shard as ShardS
 ghost use Rattle.rc_record.specs.ShardState.{version_at, value_at};
 ghost use Rattle.rc_report.specs.declared.line.Line.TheVariants.{Row};
 ghost use Rattle.rc_report.specs.declared.line.Hold.TheVariants.{Held, Free};
-ghost use Rattle.rc_protocol.specs.Shard.{holder as holder_lem};
+ghost use Rattle.rc_protocol.specs.Shard as shard_spec;
 ghost use Rattle.rc_protocol.specs.Shown.{with_written, with_held};
 ghost use Rattle.rc_plain_shard.specs.Shown.{keys_shown, row_of};
 

@@ -1,7 +1,8 @@
 // Reads that wait for a key.
 ghost use Rattle.std.specs.Prelude.{◌≡◌, [], ◌∷◌, ◌++◌, not, filter, map, OnOk};
 ghost use Rattle.rc_ids.specs.Tables.{member};
-ghost use Rattle.rc_protocol.specs.Shard.{Mark, mark_cmp, cleared, is_other, is_free as is_free_lem, grant_of};
+ghost use Rattle.rc_protocol.specs.Shard.{Mark, mark_cmp, cleared, is_other, grant_of};
+ghost use Rattle.rc_protocol.specs.Shard as shard;
 
 use crate::durable::Durable;
 use crate::grants::send_grant;
@@ -68,7 +69,7 @@ impl Waiting {
 
     /// Removes the reads whose key nobody holds exclusively.
     pub fn drop_free(&mut self, parts: &PreparedParts)
-        ensures { self.new ≡ filter (λ (m : Mark). not (is_free_lem parts.now m)) self.old }
+        ensures { self.new ≡ filter (λ (m : Mark). not (shard.is_free parts.now m)) self.old }
     {
         self.marks.retain(|mark| !is_free(parts, mark));
     }
@@ -80,7 +81,7 @@ impl Waiting {
         durable: &Durable,
         out: &mut Messages,
     ) -> Result<(), NoMemory>
-        ensures { OnOk result (out.new ≡ out.old ++ map (grant_of dc durable.now.rows) (filter (is_free_lem durable.now.parts) self.now)) }
+        ensures { OnOk result (out.new ≡ out.old ++ map (grant_of dc durable.now.rows) (filter (shard.is_free durable.now.parts) self.now)) }
     {
         for mark in &self.marks {
             if is_free(&durable.parts, mark) {

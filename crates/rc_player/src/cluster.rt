@@ -3,7 +3,8 @@ ghost use Rattle.std.specs.Prelude.{◌≡◌, [], ◌∷◌, ◌++◌, None, If
 ghost use Rattle.rc_ids.specs.Cluster.{layout, cluster_fault, equal_weights};
 ghost use Rattle.rc_script.specs.Grammar.{IsScript, FollowsWorld, commands_of};
 ghost use Rattle.rc_script.specs.Spelling.{IsCommandOf};
-ghost use Rattle.rc_runs.specs.Text.{layout_of, split_keys as split_keys_lem};
+ghost use Rattle.rc_runs.specs.Text.{layout_of};
+ghost use Rattle.rc_runs.specs.Text as text;
 ghost use Rattle.rc_player.specs.Written.{LaysOut};
 
 use rc_ids::{Cluster, Key, NoMemory};
@@ -12,7 +13,7 @@ use std::alloc::Global;
 
 /// Adds the key, if the line is a split.
 fn keep_split(keys: &mut Vec<Key>, line: &NumberedCommand) -> Result<(), NoMemory>
-    ensures { OnOk result (keys.new.items ≡ keys.old.items ++ split_keys_lem (line.now ∷ [])) }
+    ensures { OnOk result (keys.new.items ≡ keys.old.items ++ text.split_keys (line.now ∷ [])) }
 {
     if let Command::Split(key) = &line.command {
         keys.push(key.copy())?;
@@ -22,7 +23,7 @@ fn keep_split(keys: &mut Vec<Key>, line: &NumberedCommand) -> Result<(), NoMemor
 
 /// The keys of the splits.
 fn split_keys(alloc: Global, later: &[NumberedCommand]) -> Result<Vec<Key>, NoMemory>
-    ensures { IfOk result (λ keys. keys.items ≡ split_keys_lem later.now) }
+    ensures { IfOk result (λ keys. keys.items ≡ text.split_keys later.now) }
 {
     let mut keys = Vec::new(alloc);
     for line in later {

@@ -3,7 +3,7 @@ ghost use Rattle.std.specs.Prelude.{◌≡◌, ℕ, ◌<◌, List, [], ◌∷◌
 ghost use Rattle.futures.specs.Task.{Covers, Keeps};
 ghost use Rattle.futures.specs.Poll.{IfReady, OnPending};
 ghost use Rattle.rc_protocol.specs.Client.{Grant as GrantState};
-ghost use Rattle.rc_read.specs.Polls.{one_wait_more as one_wait_more_lem};
+ghost use Rattle.rc_read.specs.Polls as polls;
 
 use crate::Grant;
 use futures::task::{Context, Poll};
@@ -28,14 +28,14 @@ pub trait Inbox: Drop {
         ensures falls { IfReady result (λ _. left self.new < left self.old) }
         ensures calm { IfReady result (λ _. waits self.new ≡ waits self.old) }
         ensures same { OnPending result (given self.new ≡ given self.old) }
-        ensures waited { OnPending result (waits self.new ≡ one_wait_more_lem (waits self.old)) }
+        ensures waited { OnPending result (waits self.new ≡ polls.one_wait_more (waits self.old)) }
         ensures registered { OnPending result (Covers cx.new (needs self.new)) }
         ensures kept { Keeps cx.old cx.new };
 }
 
 /// A count of calls that were pending, and one more: the largest number of 64 bits stays.
 pub fn one_wait_more(waits: u64) -> u64
-    ensures { result ≡ one_wait_more_lem waits }
+    ensures { result ≡ polls.one_wait_more waits }
 {
     if waits < u64::MAX { waits + 1 } else { waits }
 }

@@ -1,7 +1,8 @@
 // Reads under way.
 ghost use Rattle.std.specs.Prelude.{◌≡◌, ℕ, List, false};
 ghost use Rattle.std.specs.Option.{option_copied};
-ghost use Rattle.rc_read.specs.Reads.{pick, better as better_lem, new_read, is_done, counts as counts_lem, with_grant, shown, ended, after_offer, answer_to, rest_of, IsRead};
+ghost use Rattle.rc_read.specs.Reads.{pick, new_read, is_done, with_grant, shown, ended, after_offer, answer_to, rest_of, IsRead};
+ghost use Rattle.rc_read.specs.Reads as reads;
 
 use crate::left::left_of;
 use rc_ids::{DcId, DcSet, Quorum, Val, Version};
@@ -33,7 +34,7 @@ pub struct ReadDone {
 
 /// The grant of the higher version: of two at one version, the first.
 fn better(best: Option<Grant>, grant: Grant) -> Grant
-    ensures { result ≡ better_lem best grant }
+    ensures { result ≡ reads.better best grant }
 {
     match best {
         Some(best) => {
@@ -85,7 +86,7 @@ impl ReadState {
 
     /// Whether a grant of the datacentre would count: the read is not done, and the datacentre was not offered.
     fn counts(&self, dc: DcId) -> bool
-        ensures { result ≡ counts_lem self.now dc }
+        ensures { result ≡ reads.counts self.now dc }
     {
         !self.done() && !self.offered.has(dc)
     }

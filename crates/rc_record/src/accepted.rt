@@ -2,7 +2,8 @@
 ghost use Rattle.std.specs.Prelude.{◌≡◌, [], OnOk};
 ghost use Rattle.std.specs.Option.{option_copied};
 ghost use Rattle.std.specs.Ordering.{nat_cmp};
-ghost use Rattle.rc_ids.specs.Tables.{found, put as put_lem};
+ghost use Rattle.rc_ids.specs.Tables.{found};
+ghost use Rattle.rc_ids.specs.Tables as tables;
 
 use rc_body::Decision;
 use rc_ids::{Ballot, NoMemory, TxId};
@@ -42,7 +43,7 @@ impl Acceptances {
     }
 
     pub fn put(&mut self, tx: TxId, ballot: Ballot, decision: Decision) -> Result<(), NoMemory>
-        ensures { OnOk result (self.new ≡ put_lem nat_cmp self.old tx (ballot, decision)) }
+        ensures { OnOk result (self.new ≡ tables.put nat_cmp self.old tx (ballot, decision)) }
     {
         self.map.insert(tx, (ballot, decision))?;
         Ok(())

@@ -3,7 +3,7 @@ ghost use Rattle.std.specs.Prelude.{◌≡◌, false};
 ghost use Rattle.std.specs.Option.{option_copied};
 ghost use Rattle.rc_ids.specs.Tables.{maybe};
 ghost use Rattle.rc_ids.specs.Texts.{gone, same_key};
-ghost use Rattle.rc_record.specs.Kinds.{head_of as head_of_lem, is_shard_record as is_shard_record_lem, is_coord_record as is_coord_record_lem, body_has_gone as body_has_gone_lem, decision_has_gone as decision_has_gone_lem, page_has_gone as page_has_gone_lem, has_gone as has_gone_lem};
+ghost use Rattle.rc_record.specs.Kinds as kinds;
 
 use crate::{Head, Record};
 use rc_body::{Body, Decision, Page};
@@ -11,7 +11,7 @@ use rc_ids::Val;
 
 /// The head, if the record is one.
 pub(crate) fn head_of(entry: &Record) -> Option<&Head>
-    ensures { option_copied result ≡ head_of_lem entry.now }
+    ensures { option_copied result ≡ kinds.head_of entry.now }
 {
     match entry {
         Record::Head(head) => Some(head),
@@ -21,14 +21,14 @@ pub(crate) fn head_of(entry: &Record) -> Option<&Head>
 
 /// Whether the record is of a shard server's log.
 pub(crate) fn is_shard_record(entry: &Record) -> bool
-    ensures { result ≡ is_shard_record_lem entry.now }
+    ensures { result ≡ kinds.is_shard_record entry.now }
 {
     matches!(entry, Record::Prepared(_, _) | Record::Finished(_))
 }
 
 /// Whether the record is of a coordinator's log.
 pub(crate) fn is_coord_record(entry: &Record) -> bool
-    ensures { result ≡ is_coord_record_lem entry.now }
+    ensures { result ≡ kinds.is_coord_record entry.now }
 {
     matches!(
         entry,
@@ -54,7 +54,7 @@ fn some_gone(value: Option<&Val>) -> bool
 
 /// Whether the body writes a gone value.
 fn body_has_gone(body: &Body) -> bool
-    ensures { result ≡ body_has_gone_lem body.now }
+    ensures { result ≡ kinds.body_has_gone body.now }
 {
     for index in 0..body.len() {
         let entry = body.entry(index);
@@ -66,7 +66,7 @@ fn body_has_gone(body: &Body) -> bool
 }
 
 fn decision_has_gone(decision: &Decision) -> bool
-    ensures { result ≡ decision_has_gone_lem decision.now }
+    ensures { result ≡ kinds.decision_has_gone decision.now }
 {
     match decision {
         Decision::Commit(body) => body_has_gone(body),
@@ -75,7 +75,7 @@ fn decision_has_gone(decision: &Decision) -> bool
 }
 
 fn page_has_gone(page: &Page) -> bool
-    ensures { result ≡ page_has_gone_lem page.now }
+    ensures { result ≡ kinds.page_has_gone page.now }
 {
     for index in 0..page.len() {
         let (_, decision) = page.entry(index);
@@ -88,7 +88,7 @@ fn page_has_gone(page: &Page) -> bool
 
 /// Whether the record holds a gone value.
 pub(crate) fn has_gone(entry: &Record) -> bool
-    ensures { result ≡ has_gone_lem entry.now }
+    ensures { result ≡ kinds.has_gone entry.now }
 {
     match entry {
         Record::Head(_) | Record::Promised(_, _) => false,

@@ -1,10 +1,11 @@
 // What a log gives back.
 ghost use Rattle.std.specs.Prelude.{◌≡◌, ◌≢◌, Ok, Err, IfOk, IfErr, OnOk};
-ghost use Rattle.rc_record.specs.Heads.{same_world as same_world_lem, is_of as is_of_lem};
-ghost use Rattle.rc_record.specs.Kinds.{is_shard_record as is_shard_record_lem, is_coord_record as is_coord_record_lem};
+ghost use Rattle.rc_record.specs.Heads as heads;
+ghost use Rattle.rc_record.specs.Kinds as kinds_spec;
 ghost use Rattle.rc_record.specs.InOrder.{shard_replayed_by};
 ghost use Rattle.rc_record.specs.CoordState.{coord_applied};
-ghost use Rattle.rc_record.specs.Replay.{next_format as next_format_lem, is_refused as is_refused_lem, format_behind as format_behind_lem, shard_step as shard_step_lem, coord_step as coord_step_lem, shard_replay, coord_replay, head_in as head_in_lem, newest_head as newest_head_lem};
+ghost use Rattle.rc_record.specs.Replay.{shard_replay, coord_replay};
+ghost use Rattle.rc_record.specs.Replay as replay;
 ghost use Rattle.rc_record.specs.declared.fault.ReplayFault.TheVariants.{NoMemory as OutOfMemory};
 
 use crate::kinds::{has_gone, head_of, is_coord_record, is_shard_record};
@@ -13,7 +14,7 @@ use rc_ids::{Blob, Blobs, Cluster, NoMemory, NodeId};
 use std::alloc::Global;
 
 fn same_world(first: &Cluster, second: &Cluster) -> bool
-    ensures { result ≡ same_world_lem first.now second.now }
+    ensures { result ≡ heads.same_world first.now second.now }
 {
     first.dcs() == second.dcs()
         && first.shards() == second.shards()
@@ -23,7 +24,7 @@ fn same_world(first: &Cluster, second: &Cluster) -> bool
 
 /// Whether it is the head of a log of the node in this world.
 fn is_of(node: &NodeId, cluster: &Cluster, head: &Head) -> bool
-    ensures { result ≡ is_of_lem node.now cluster.now head.now }
+    ensures { result ≡ heads.is_of node.now cluster.now head.now }
 {
     head.node().is(node) && same_world(head.cluster(), cluster)
 }
@@ -36,7 +37,7 @@ fn next_format(
     format: u8,
     head: &Head,
 ) -> Result<u8, ReplayFault>
-    ensures { result ≡ next_format_lem node.now cluster.now place format head.now }
+    ensures { result ≡ replay.next_format node.now cluster.now place format head.now }
 {
     if format == 0 {
         if is_of(node, cluster, head) {
@@ -53,7 +54,7 @@ fn next_format(
 
 /// Whether a record that is no head may not stand there.
 fn is_refused(is_kind: bool, format: u8, entry: &Record) -> bool
-    ensures { result ≡ is_refused_lem is_kind format entry.now }
+    ensures { result ≡ replay.is_refused is_kind format entry.now }
 {
     format == 0 || !is_kind || (format == 1 && has_gone(entry))
 }
@@ -66,7 +67,7 @@ fn shard_format(
     format: u8,
     entry: &Record,
 ) -> Result<u8, ReplayFault>
-    ensures { result ≡ format_behind_lem node.now cluster.now is_shard_record_lem place format entry.now }
+    ensures { result ≡ replay.format_behind node.now cluster.now kinds_spec.is_shard_record place format entry.now }
 {
     match head_of(entry) {
         Some(head) => next_format(node, cluster, place, format, head),
@@ -88,7 +89,7 @@ fn coord_format(
     format: u8,
     entry: &Record,
 ) -> Result<u8, ReplayFault>
-    ensures { result ≡ format_behind_lem node.now cluster.now is_coord_record_lem place format entry.now }
+    ensures { result ≡ replay.format_behind node.now cluster.now kinds_spec.is_coord_record place format entry.now }
 {
     match head_of(entry) {
         Some(head) => next_format(node, cluster, place, format, head),
@@ -135,8 +136,8 @@ fn shard_step(
     durable: &mut ShardDurable,
     blob: &Blob,
 ) -> Result<u8, ReplayFault>
-    ensures ok { IfOk result (λ behind. shard_step_lem node.now cluster.now place (format, durable.old) blob.now ≡ Ok (behind, durable.new)) }
-    ensures err { IfErr result (λ e. e ≢ OutOfMemory → shard_step_lem node.now cluster.now place (format, durable.old) blob.now ≡ Err e) }
+    ensures ok { IfOk result (λ behind. replay.shard_step node.now cluster.now place (format, durable.old) blob.now ≡ Ok (behind, durable.new)) }
+    ensures err { IfErr result (λ e. e ≢ OutOfMemory → replay.shard_step node.now cluster.now place (format, durable.old) blob.now ≡ Err e) }
 {
     let Some(entry) = decode(alloc, blob.as_bytes())? else {
         return Err(ReplayFault::BadRecord { index: place });
@@ -156,8 +157,8 @@ fn coord_step(
     durable: &mut CoordDurable,
     blob: &Blob,
 ) -> Result<u8, ReplayFault>
-    ensures ok { IfOk result (λ behind. coord_step_lem node.now cluster.now place (format, durable.old) blob.now ≡ Ok (behind, durable.new)) }
-    ensures err { IfErr result (λ e. e ≢ OutOfMemory → coord_step_lem node.now cluster.now place (format, durable.old) blob.now ≡ Err e) }
+    ensures ok { IfOk result (λ behind. replay.coord_step node.now cluster.now place (format, durable.old) blob.now ≡ Ok (behind, durable.new)) }
+    ensures err { IfErr result (λ e. e ≢ OutOfMemory → replay.coord_step node.now cluster.now place (format, durable.old) blob.now ≡ Err e) }
 {
     let Some(entry) = decode(alloc, blob.as_bytes())? else {
         return Err(ReplayFault::BadRecord { index: place });
@@ -223,7 +224,7 @@ pub fn replay_coord(
 
 /// The head that the bytes spell, if they spell one.
 fn head_in(alloc: Global, blob: &Blob) -> Result<Option<Head>, NoMemory>
-    ensures { IfOk result (λ head. head ≡ head_in_lem blob.now) }
+    ensures { IfOk result (λ head. head ≡ replay.head_in blob.now) }
 {
     match decode(alloc, blob.as_bytes())? {
         Some(Record::Head(head)) => Ok(Some(head)),
@@ -233,7 +234,7 @@ fn head_in(alloc: Global, blob: &Blob) -> Result<Option<Head>, NoMemory>
 
 /// The last head of the log, if it has one.
 pub fn newest_head(alloc: Global, blobs: &Blobs) -> Result<Option<Head>, NoMemory>
-    ensures { IfOk result (λ head. head ≡ newest_head_lem blobs.now) }
+    ensures { IfOk result (λ head. head ≡ replay.newest_head blobs.now) }
 {
     let log = blobs.as_slice();
     for behind in 0..log.len() {

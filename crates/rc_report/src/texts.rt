@@ -1,7 +1,8 @@
 // Lines as text.
 ghost use Rattle.std.specs.Prelude.{◌≡◌, ◌++◌, OnOk, OnErr, codes};
 ghost use Rattle.std.specs.List.{flat_map};
-ghost use Rattle.rc_report.specs.Names.{space, tx_text, ended_text, is_gone as is_gone_lem};
+ghost use Rattle.rc_report.specs.Names.{space, tx_text, ended_text};
+ghost use Rattle.rc_report.specs.Names as names;
 ghost use Rattle.rc_report.specs.Lines.{read_text, own_text, order_text, hold_text, row_text, rest_text, count_text, body_text, line_text};
 
 use crate::faults::{put_limit, put_limit_at, put_line, put_log_fault, put_wrong};
@@ -12,7 +13,7 @@ use crate::{Count, Hold, Line, Rest};
 use rc_ids::{Key, NoMemory, NodeId, Outcome, Text, TxId, Val, Version};
 
 fn is_gone(value: &Val) -> bool
-    ensures { result ≡ is_gone_lem value.now }
+    ensures { result ≡ names.is_gone value.now }
 {
     value.is_gone()
 }

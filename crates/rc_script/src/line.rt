@@ -2,8 +2,8 @@
 ghost use Rattle.std.specs.Prelude.{◌≡◌, ◌<◌, ◌∷◌, length, IfOk, IfSome};
 ghost use Rattle.std.specs.Str.Lines.{lines, strip_carriage_return};
 ghost use Rattle.std.specs.List.{list_all};
-ghost use Rattle.rc_ids.specs.Texts.{is_value_byte as is_value_byte_lem};
-ghost use Rattle.rc_script.specs.Reading.{line_of as line_of_lem, is_skipped as is_skipped_lem, command_line as command_line_lem};
+ghost use Rattle.rc_ids.specs.Texts as texts;
+ghost use Rattle.rc_script.specs.Reading as reading_spec;
 
 use crate::command::Command;
 use crate::reading::command_of;
@@ -37,7 +37,7 @@ pub(crate) fn first_line(bytes: &[u8]) -> (&[u8], &[u8])
 
 /// Whether the line is empty or a remark.
 fn is_skipped(line: &[u8]) -> bool
-    ensures { result ≡ is_skipped_lem line.now }
+    ensures { result ≡ reading_spec.is_skipped line.now }
 {
     match line {
         [] => true,
@@ -47,7 +47,7 @@ fn is_skipped(line: &[u8]) -> bool
 
 /// Whether all bytes are from the space to `~`.
 fn is_printable(line: &[u8]) -> bool
-    ensures { result ≡ list_all is_value_byte_lem line.now }
+    ensures { result ≡ list_all texts.is_value_byte line.now }
 {
     line.iter().all(|b| is_value_byte(*b))
 }
@@ -58,7 +58,7 @@ fn command_line(
     before: Option<World>,
     line: &[u8],
 ) -> Result<Option<(Option<Command>, Option<World>)>, NoMemory>
-    ensures { IfOk result (λ found. found ≡ command_line_lem before line.now) }
+    ensures { IfOk result (λ found. found ≡ reading_spec.command_line before line.now) }
 {
     let (dcs, shards) = sizes_of(&before);
     let Some(command) = command_of(alloc, dcs, shards, line)? else {
@@ -77,7 +77,7 @@ pub(crate) fn line_of(
     before: Option<World>,
     line: &[u8],
 ) -> Result<Option<(Option<Command>, Option<World>)>, NoMemory>
-    ensures { IfOk result (λ found. found ≡ line_of_lem before line.now) }
+    ensures { IfOk result (λ found. found ≡ reading_spec.line_of before line.now) }
 {
     if !is_skipped(line) {
         return command_line(alloc, before, line);

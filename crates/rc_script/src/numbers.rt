@@ -1,7 +1,7 @@
 //! Lists of numbers.
 ghost use Rattle.std.specs.Prelude.{◌≡◌, IfOk};
 ghost use Rattle.std.specs.Option.{option_map};
-ghost use Rattle.rc_script.specs.Words.{numbers_of as numbers_of_lem};
+ghost use Rattle.rc_script.specs.Words as words_spec;
 
 use crate::words::{cut, number_in, small_number_in};
 use rc_ids::NoMemory;
@@ -14,7 +14,7 @@ pub(crate) fn numbers_of(
     high: u32,
     text: &[u8],
 ) -> Result<Option<Vec<u32>>, NoMemory>
-    ensures { IfOk result (λ found. option_map (λ v. v.items) found ≡ numbers_of_lem low high text.now) }
+    ensures { IfOk result (λ found. option_map (λ v. v.items) found ≡ words_spec.numbers_of low high text.now) }
 {
     let mut numbers = Vec::new(alloc);
     let mut rest = Some(text);
@@ -36,7 +36,7 @@ pub(crate) fn small_numbers_of(
     high: u8,
     text: &[u8],
 ) -> Result<Option<Vec<u8>>, NoMemory>
-    ensures { IfOk result (λ found. option_map (λ v. v.items) found ≡ numbers_of_lem low high text.now) }
+    ensures { IfOk result (λ found. option_map (λ v. v.items) found ≡ words_spec.numbers_of low high text.now) }
 {
     let mut numbers = Vec::new(alloc);
     let mut rest = Some(text);

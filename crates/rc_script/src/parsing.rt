@@ -3,7 +3,8 @@ ghost use Rattle.std.specs.Prelude.{◌≡◌, ◌<◌, ◌≤◌, ◌++◌, Lis
 ghost use Rattle.std.specs.Str.Lines.{lines};
 ghost use Rattle.rc_script.specs.declared.script.NumberedCommand.{NumberedCommand};
 ghost use Rattle.rc_script.specs.Grammar.{IsScriptOf};
-ghost use Rattle.rc_script.specs.Reading.{Gives, numbered, read_lines as read_lines_lem, script_of};
+ghost use Rattle.rc_script.specs.Reading.{Gives, numbered, script_of};
+ghost use Rattle.rc_script.specs.Reading as reading;
 
 use crate::command::Command;
 use crate::fault::ScriptFault;
@@ -47,7 +48,7 @@ fn keep(
 /// The commands of the lines, or the first line outside the grammar.
 fn read_lines(alloc: Global, bytes: &[u8]) -> Result<Vec<NumberedCommand>, ScriptFault>
     requires { length (lines bytes.now) ≤ 65536 }
-    ensures { Gives (λ v. v.items) result (read_lines_lem None 1 (lines bytes.now)) }
+    ensures { Gives (λ v. v.items) result (reading.read_lines None 1 (lines bytes.now)) }
 {
     let mut commands = Vec::new(alloc);
     let mut before = None;

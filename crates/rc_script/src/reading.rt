@@ -1,7 +1,8 @@
 //! Lines as commands.
 ghost use Rattle.std.specs.Prelude.{◌≡◌, ◌≤◌, IfOk, IfSome, length};
 ghost use Rattle.std.specs.Option.{option_map};
-ghost use Rattle.rc_script.specs.Commands.{tx_and_key as tx_and_key_lem, weights_of, world_of, write_of, messages_of, crash_of, take_of, bare_command as bare_command_lem, plain_command as plain_command_lem, command_with as command_with_lem, command_of as command_of_lem};
+ghost use Rattle.rc_script.specs.Commands.{weights_of, world_of, write_of, messages_of, crash_of, take_of};
+ghost use Rattle.rc_script.specs.Commands as commands_spec;
 ghost use Rattle.rc_script.specs.Words.{key_of, tx_of, dc_of, node_of};
 
 use crate::command::{Command, Numbers, Weights};
@@ -13,7 +14,7 @@ use std::alloc::Global;
 
 /// A transaction and a key.
 fn tx_and_key(words: &[u8]) -> Option<(TxId, Key)>
-    ensures { result ≡ tx_and_key_lem words.now }
+    ensures { result ≡ commands_spec.tx_and_key words.now }
 {
     let (tx_word, others) = cut(words, b' ');
     let key_word = others?;
@@ -131,7 +132,7 @@ fn take(dcs: u8, words: &[u8]) -> Option<Command>
 
 /// A line of one word.
 fn bare_command(verb: Verb) -> Option<Command>
-    ensures { result ≡ bare_command_lem verb }
+    ensures { result ≡ commands_spec.bare_command verb }
 {
     match verb {
         Verb::Settle => Some(Command::Settle),
@@ -145,7 +146,7 @@ fn bare_command(verb: Verb) -> Option<Command>
 fn plain_command(dcs: u8, shards: u8, verb: Verb, words: &[u8]) -> Option<Command>
     requires dcs { dcs ≤ 7 }
     requires shards { shards ≤ 8 }
-    ensures { result ≡ plain_command_lem dcs shards verb words.now }
+    ensures { result ≡ commands_spec.plain_command dcs shards verb words.now }
 {
     match verb {
         Verb::Split => key(words).map(Command::Split),
@@ -194,7 +195,7 @@ fn command_with(
 ) -> Result<Option<Command>, NoMemory>
     requires dcs { dcs ≤ 7 }
     requires shards { shards ≤ 8 }
-    ensures { IfOk result (λ found. found ≡ command_with_lem dcs shards verb words.now) }
+    ensures { IfOk result (λ found. found ≡ commands_spec.command_with dcs shards verb words.now) }
 {
     match verb {
         Verb::World => world(alloc, words),
@@ -215,7 +216,7 @@ pub(crate) fn command_of(
 ) -> Result<Option<Command>, NoMemory>
     requires dcs { dcs ≤ 7 }
     requires shards { shards ≤ 8 }
-    ensures { IfOk result (λ found. found ≡ command_of_lem dcs shards line.now) }
+    ensures { IfOk result (λ found. found ≡ commands_spec.command_of dcs shards line.now) }
 {
     let (word, others) = cut(line, b' ');
     let Some(verb) = verb_of(word) else {

@@ -1,6 +1,7 @@
 //! Which commands may stand where.
 ghost use Rattle.std.specs.Prelude.{◌≡◌, ◌≤◌, ◌-◌, IfSome, IsTrue, ◌↔◌};
-ghost use Rattle.rc_script.specs.Stages.{after_command as after_command_lem, is_whole as is_whole_lem, dcs_of, shards_of, is_above, FitsWorld};
+ghost use Rattle.rc_script.specs.Stages.{dcs_of, shards_of, is_above, FitsWorld};
+ghost use Rattle.rc_script.specs.Stages as stages;
 
 use crate::command::Command;
 use rc_ids::Key;
@@ -29,7 +30,7 @@ impl Model for World {
 impl World {
     /// The world after a split, if one is missing and this one is above the last.
     fn after_split(self, key: &Key) -> Option<World>
-        ensures { result ≡ after_command_lem (Some self) (Command.Split key.now) }
+        ensures { result ≡ stages.after_command (Some self) (Command.Split key.now) }
     {
         if self.missing == 0 || !is_above(&self.last, key) {
             return None;
@@ -44,7 +45,7 @@ impl World {
 
     /// The world after a command, if it may stand there.
     fn after(self, command: &Command) -> Option<World>
-        ensures { result ≡ after_command_lem (Some self) command.now }
+        ensures { result ≡ stages.after_command (Some self) command.now }
     {
         match command {
             Command::World { .. } => None,
@@ -80,7 +81,7 @@ fn is_above(last: &Option<Key>, key: &Key) -> bool
 /// The world that a first command makes.
 fn opened(command: &Command) -> Option<World>
     requires { FitsWorld command.now }
-    ensures { result ≡ after_command_lem None command.now }
+    ensures { result ≡ stages.after_command None command.now }
 {
     match command {
         Command::World { dcs, shards, .. } => Some(World {
@@ -96,7 +97,7 @@ fn opened(command: &Command) -> Option<World>
 /// The world after a command, if it may stand there.
 pub(crate) fn after_command(before: Option<World>, command: &Command) -> Option<World>
     requires { FitsWorld command.now }
-    ensures { result ≡ after_command_lem before command.now }
+    ensures { result ≡ stages.after_command before command.now }
 {
     match before {
         None => opened(command),
@@ -117,7 +118,7 @@ pub(crate) fn sizes_of(before: &Option<World>) -> (u8, u8)
 
 /// Whether no split is missing at the end.
 pub(crate) fn is_whole(before: &Option<World>) -> bool
-    ensures { result ≡ is_whole_lem before.now }
+    ensures { result ≡ stages.is_whole before.now }
 {
     match before {
         None => true,

@@ -1,7 +1,7 @@
 //! The first words of the lines.
 ghost use Rattle.std.specs.Prelude.{◌≡◌};
 ghost use Rattle.std.specs.Str.{bytes_eq};
-ghost use Rattle.rc_script.specs.Commands.{verb_of as verb_of_lem};
+ghost use Rattle.rc_script.specs.Commands as commands;
 
 /// What the first word of a line asks for.
 #[derive(Clone, Copy, Debug)]
@@ -38,7 +38,7 @@ fn is_named(word: &[u8], name: &[u8]) -> bool
 
 /// What the first word of a line asks for, if it is one of the language.
 pub(crate) fn verb_of(word: &[u8]) -> Option<Verb>
-    ensures { result ≡ verb_of_lem word.now }
+    ensures { result ≡ commands.verb_of word.now }
 {
     let verb = if is_named(word, b"world") {
         Verb::World

@@ -1,7 +1,8 @@
 //! Words, and the numbers and names that they spell.
 ghost use Rattle.std.specs.Prelude.{◌≡◌, ◌≤◌, ◌<◌, length, IfSome, IfOk, Some, None, ◌==◌, position};
 ghost use Rattle.std.specs.Option.{option_map};
-ghost use Rattle.rc_script.specs.Words.{cut as cut_lem, cut_at, text_after as behind_lem, with_digit, with_digits, number_up_to as number_up_to_lem, number_in as number_in_lem, named as named_lem, tx_of, dc_of, shard_of, node_of, key_of, val_of};
+ghost use Rattle.rc_script.specs.Words.{cut_at, with_digit, with_digits, tx_of, dc_of, shard_of, node_of, key_of, val_of};
+ghost use Rattle.rc_script.specs.Words as words;
 
 use rc_ids::{DcId, Key, NoMemory, NodeId, ShardId, TextFault, TxId, Val};
 use std::alloc::Global;
@@ -16,7 +17,7 @@ pub(crate) fn place_of(text: &[u8], byte: u8) -> Option<usize>
 
 /// What stands before the first such byte, and what stands behind it, where there is one.
 pub fn cut(text: &[u8], byte: u8) -> (&[u8], Option<&[u8]>)
-    ensures { (result.0.now, option_map (λ x. x.now) result.1) ≡ cut_lem byte text.now }
+    ensures { (result.0.now, option_map (λ x. x.now) result.1) ≡ words.cut byte text.now }
 {
     match place_of(text, byte) {
         None => (text, None),
@@ -26,7 +27,7 @@ pub fn cut(text: &[u8], byte: u8) -> (&[u8], Option<&[u8]>)
 
 /// What follows this text at the front.
 pub fn behind<'a>(front: &[u8], text: &'a [u8]) -> Option<&'a [u8]>
-    ensures { option_map (λ x. x.now) result ≡ behind_lem front.now text.now }
+    ensures { option_map (λ x. x.now) result ≡ words.text_after front.now text.now }
 {
     text.strip_prefix(front)
 }
@@ -60,7 +61,7 @@ fn with_all_digits(limit: u32, digits: &[u8]) -> Option<u32>
 
 /// The decimal number, without leading zeros and up to the limit, that the word spells.
 fn number_up_to(limit: u32, word: &[u8]) -> Option<u32>
-    ensures value { result ≡ number_up_to_lem limit word.now }
+    ensures value { result ≡ words.number_up_to limit word.now }
     ensures range { IfSome result (λ n. n ≤ limit) }
 {
     match word {
@@ -77,7 +78,7 @@ fn number_up_to(limit: u32, word: &[u8]) -> Option<u32>
 
 /// The decimal number in this range that the word spells.
 pub fn number_in(low: u32, high: u32, word: &[u8]) -> Option<u32>
-    ensures value { result ≡ number_in_lem low high word.now }
+    ensures value { result ≡ words.number_in low high word.now }
     ensures range { IfSome result (λ n. (low ≤ n) × (n ≤ high)) }
 {
     let number = number_up_to(high, word)?;
@@ -89,7 +90,7 @@ pub fn number_in(low: u32, high: u32, word: &[u8]) -> Option<u32>
 
 /// A small number in this range.
 pub(crate) fn small_number_in(low: u8, high: u8, word: &[u8]) -> Option<u8>
-    ensures { result ≡ number_in_lem low high word.now }
+    ensures { result ≡ words.number_in low high word.now }
 {
     let number = number_in(u32::from(low), u32::from(high), word)?;
     Some(number as u8)
@@ -97,7 +98,7 @@ pub(crate) fn small_number_in(low: u8, high: u8, word: &[u8]) -> Option<u8>
 
 /// The number from 1 up to the limit that stands behind the letter.
 fn named(letter: u8, limit: u32, word: &[u8]) -> Option<u32>
-    ensures value { result ≡ named_lem letter limit word.now }
+    ensures value { result ≡ words.named letter limit word.now }
     ensures range { IfSome result (λ n. (1 ≤ n) × (n ≤ limit)) }
 {
     match word {

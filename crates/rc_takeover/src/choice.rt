@@ -1,7 +1,7 @@
 // What a take-over chooses.
 ghost use Rattle.std.specs.Prelude.{◌≡◌, ◌≤◌, ◌&&◌};
 ghost use Rattle.rc_body.specs.declared.decision.Decision.{Decision as DecisionOf};
-ghost use Rattle.rc_takeover.specs.Choices.{has_all_dcs as has_all_dcs_lem, eager_choice as eager_choice_lem, patient_choice as patient_choice_lem, choice as choice_lem, proposal as proposal_lem};
+ghost use Rattle.rc_takeover.specs.Choices as choices;
 
 use rc_body::Decision;
 use rc_ids::{Ballot, DcId, DcSet, Quorum};
@@ -25,7 +25,7 @@ fn both(first: bool, second: bool) -> bool
 #[tactic(auto, using(crate::proofs::CountFacts::all_more))]
 fn has_all_dcs(dcs: u8, set: &DcSet) -> bool
     requires { dcs ≤ 7 }
-    ensures { result ≡ has_all_dcs_lem dcs set.now }
+    ensures { result ≡ choices.has_all_dcs dcs set.now }
 {
     let mut all = true;
     for place in 0..dcs {
@@ -35,7 +35,7 @@ fn has_all_dcs(dcs: u8, set: &DcSet) -> bool
 }
 
 fn eager_choice(quorum: &Quorum, heard: DcSet) -> Option<Choice>
-    ensures { result ≡ eager_choice_lem quorum.now heard }
+    ensures { result ≡ choices.eager_choice quorum.now heard }
 {
     if quorum.holds(heard) {
         Some(Choice::Best)
@@ -46,7 +46,7 @@ fn eager_choice(quorum: &Quorum, heard: DcSet) -> Option<Choice>
 
 fn patient_choice(dcs: u8, quorum: &Quorum, heard: DcSet, silent: DcSet) -> Option<Choice>
     requires { dcs ≤ 7 }
-    ensures { result ≡ patient_choice_lem dcs quorum.now heard silent }
+    ensures { result ≡ choices.patient_choice dcs quorum.now heard silent }
 {
     if quorum.holds(silent) {
         Some(Choice::Nothing)
@@ -66,7 +66,7 @@ pub fn chosen(
     silent: DcSet,
 ) -> Option<Choice>
     requires { dcs ≤ 7 }
-    ensures { result ≡ choice_lem dcs quorum.now is_eager heard silent }
+    ensures { result ≡ choices.choice dcs quorum.now is_eager heard silent }
 {
     if is_eager {
         eager_choice(quorum, heard)
@@ -77,7 +77,7 @@ pub fn chosen(
 
 /// The decision that is proposed.
 pub fn proposal(choice: Choice, best: Option<(Ballot, Decision)>) -> Decision
-    ensures { result ≡ proposal_lem choice best }
+    ensures { result ≡ choices.proposal choice best }
 {
     match (choice, best) {
         (Choice::Best, Some((_, decision))) => decision,

@@ -3,7 +3,7 @@ ghost use Rattle.std.specs.Prelude.{◌≡◌, if◌then◌else◌};
 ghost use Rattle.std.specs.Option.{option_copied};
 ghost use Rattle.std.specs.Ordering.{nat_cmp};
 ghost use Rattle.rc_ids.specs.Tables.{added};
-ghost use Rattle.rc_protocol.specs.Coordinator.{better as better_lem};
+ghost use Rattle.rc_protocol.specs.Coordinator as coordinator;
 ghost use Rattle.rc_takeover.specs.TakeOvers.{foretold_by, foretold_best};
 
 use crate::Would;
@@ -22,7 +22,7 @@ pub fn better(
     best: Option<(Ballot, Decision)>,
     report: Option<(Ballot, Decision)>,
 ) -> Option<(Ballot, Decision)>
-    ensures { result ≡ better_lem best report }
+    ensures { result ≡ coordinator.better best report }
 {
     let Some(new) = report else {
         return best;
@@ -38,7 +38,7 @@ pub fn would_report<'a>(
     best: &'a Option<(Ballot, Decision)>,
     report: Option<&'a (Ballot, Decision)>,
 ) -> Would<'a>
-    ensures { foretold_by result ≡ foretold_best (better_lem best.now (option_copied report.entry)) }
+    ensures { foretold_by result ≡ foretold_best (coordinator.better best.now (option_copied report.entry)) }
 {
     match (best, report) {
         (None, None) => Would::Abort,

@@ -5,8 +5,9 @@ ghost use Rattle.std.specs.Result.{result_ok};
 ghost use Rattle.rc_ids.specs.Cluster.{Layout, is_dc, next_ballot};
 ghost use Rattle.rc_body.specs.declared.decision.Decision.{Decision as DecisionOf};
 ghost use Rattle.rc_protocol.specs.Coordinator.{opening, hears, chooses, proposed};
-ghost use Rattle.rc_takeover.specs.Choices.{choice as choice_lem, proposal as proposal_lem};
-ghost use Rattle.rc_takeover.specs.TakeOvers.{kept, with_state, cluster_of, waits_for as waits_for_lem, gone_on, said, heard_by, after_promise, foretold_by, foretold, foretells, IsTakeOver, KeptTakeOver};
+ghost use Rattle.rc_takeover.specs.Choices as choices;
+ghost use Rattle.rc_takeover.specs.TakeOvers.{kept, with_state, cluster_of, gone_on, said, heard_by, after_promise, foretold_by, foretold, foretells, IsTakeOver, KeptTakeOver};
+ghost use Rattle.rc_takeover.specs.TakeOvers as take_overs;
 
 use crate::choice::{Choice, chosen, proposal};
 use crate::reports::{better, silent_after, would_report};
@@ -92,14 +93,14 @@ impl Takeover {
 
     /// Whether it has not proposed yet, and did not hear the datacentre.
     fn waits_for(&self, dc: DcId) -> bool
-        ensures { result ≡ waits_for_lem self.now.state dc }
+        ensures { result ≡ take_overs.waits_for self.now.state dc }
     {
         !self.has_proposed && !self.heard.has(dc)
     }
 
     /// What it chooses, where these were heard and these of them reported nothing.
     fn choice(&self, heard: DcSet, silent: DcSet) -> Option<Choice>
-        ensures { result ≡ choice_lem self.now.dcs self.now.weights self.now.state.is_eager heard silent }
+        ensures { result ≡ choices.choice self.now.dcs self.now.weights self.now.state.is_eager heard silent }
     {
         chosen(self.dcs, &self.quorum, self.is_eager, heard, silent)
     }
@@ -139,7 +140,7 @@ impl Takeover {
 
     /// Proposes what is chosen of its reports, and forgets them.
     fn propose(&mut self, choice: Choice) -> Decision
-        ensures decision { result ≡ proposal_lem choice self.old.state.best }
+        ensures decision { result ≡ choices.proposal choice self.old.state.best }
         ensures after { self.new ≡ with_state self.old (proposed self.old.state) }
     {
         self.has_proposed = true;

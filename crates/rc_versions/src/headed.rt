@@ -3,7 +3,7 @@ ghost use Rattle.std.specs.Prelude.{◌≡◌, slice_index, Some, refl};
 ghost use Rattle.std.specs.Cmp.{on_equiv, on_total, on_po, on_per, partial_equiv_from_equiv};
 ghost use Rattle.std.specs.Cmp.Lexicographic.{nat_list_eq_equiv, nat_list_cmp_total, texts_po, texts_ties};
 ghost use Rattle.rc_ids.specs.Texts.{IsKey, key_cmp, same_key};
-ghost use Rattle.rc_versions.specs.Heads.{head_of as head_lem};
+ghost use Rattle.rc_versions.specs.Heads as heads_spec;
 
 use rc_ids::Key;
 use std::cmp::Ordering;
@@ -20,13 +20,13 @@ pub struct HeadedKey {
 impl Model for HeadedKey {
     ghost use Rattle.std.specs.Prelude.{◌≡◌, ℕ, List};
     ghost use Rattle.rc_ids.specs.Texts.{IsKey};
-    ghost use Rattle.rc_versions.specs.Heads.{head_of as head_lem};
+    ghost use Rattle.rc_versions.specs.Heads as heads_spec;
 
     ghost Value = { List ℕ };
 
     ghost view = { λ k. k.key };
 
-    ghost invariant = { λ k. (k.head ≡ head_lem k.key) × IsKey k.key };
+    ghost invariant = { λ k. (k.head ≡ heads_spec.head_of k.key) × IsKey k.key };
 }
 
 /// The byte at the place; 0 behind the end.
@@ -38,7 +38,7 @@ fn byte_at(bytes: &[u8], place: usize) -> u8
 
 /// The head of the key.
 fn head_of(key: &Key) -> u64
-    ensures head { result ≡ head_lem key.now }
+    ensures head { result ≡ heads_spec.head_of key.now }
     ensures key { IsKey key.now }
 {
     let bytes = key.as_bytes();

@@ -5,7 +5,7 @@ ghost use Rattle.rc_ids.specs.Tables.{found};
 ghost use Rattle.rc_ids.specs.Texts.{key_cmp};
 ghost use Rattle.rc_record.specs.ShardState.{version_at};
 ghost use Rattle.rc_versions.specs.Rows.{Rises, newest};
-ghost use Rattle.rc_versions.specs.Pages.{starts_by as starts_by_lem};
+ghost use Rattle.rc_versions.specs.Pages as pages;
 
 use crate::HeadedKey;
 use crate::places::{Row, count_below, insert_at, raise_at, row_of};
@@ -72,7 +72,7 @@ impl Page {
 
     /// Whether the first row's key is this one or below it.
     pub fn starts_by(&self, key: &HeadedKey) -> bool
-        ensures { result ≡ starts_by_lem key.now self.now }
+        ensures { result ≡ pages.starts_by key.now self.now }
     {
         match self.rows.first() {
             Some(row) => *key >= row.0,

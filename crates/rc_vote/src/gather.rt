@@ -1,7 +1,8 @@
 // Gathers.
 ghost use Rattle.std.specs.Prelude.{◌≡◌, []};
 ghost use Rattle.rc_ids.specs.Cluster.{Layout};
-ghost use Rattle.rc_vote.specs.Gathers.{shard_gather, raised, still_asked, is_complete as is_complete_lem, after_answer, gathered, IsGather};
+ghost use Rattle.rc_vote.specs.Gathers.{shard_gather, raised, still_asked, after_answer, gathered, IsGather};
+ghost use Rattle.rc_vote.specs.Gathers as gathers;
 
 use crate::left::left_of;
 use rc_ids::{Ballot, ShardId, ShardSet};
@@ -103,7 +104,7 @@ impl Gather {
 
     /// Whether all touched shards said yes.
     pub fn is_complete(&self) -> bool
-        ensures { result ≡ is_complete_lem self.now }
+        ensures { result ≡ gathers.is_complete self.now }
     {
         left_of(&self.touched, &self.yes).len() == 0
     }

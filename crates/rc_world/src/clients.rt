@@ -5,14 +5,15 @@ ghost use Rattle.rc_ids.specs.Tables.{found};
 ghost use Rattle.rc_plain_client.specs.Acts.{Does};
 ghost use Rattle.rc_protocol.specs.Client.{Client as ClientState};
 ghost use Rattle.rc_runs.specs.World.{replaced};
-ghost use Rattle.rc_world.specs.Acted.{client_part as client_part_lem, May, Wears};
+ghost use Rattle.rc_world.specs.Acted.{May, Wears};
+ghost use Rattle.rc_world.specs.Acted as acted;
 ghost use Rattle.rc_world.specs.declared.fault.ActFault.TheVariants.{NoMemory as OutOfMemory};
 
 use crate::fault::ActFault;
 use crate::network::message;
-use rc_plain_client::Client;
 use rc_ids::{Cluster, TxId};
 use rc_msg::{Envelope, Messages};
+use rc_plain_client::Client;
 use rc_report::Lines;
 use rc_runs::Event;
 use std::alloc::Global;
@@ -30,8 +31,8 @@ fn client_act(
     lines: &mut Lines,
 ) -> Result<(), ActFault>
     requires { May sent.now event.now client.old }
-    ensures done { OnOk result (Does (client_part_lem cluster.now tx sent.now event.now client.old) client.new out.old out.new lines.old lines.new) }
-    ensures worn { IfErr result (λ e. Wears e (client_part_lem cluster.now tx sent.now event.now client.old)) }
+    ensures done { OnOk result (Does (acted.client_part cluster.now tx sent.now event.now client.old) client.new out.old out.new lines.old lines.new) }
+    ensures worn { IfErr result (λ e. Wears e (acted.client_part cluster.now tx sent.now event.now client.old)) }
 {
     match event {
         Event::Read(_, key) => client.read(cluster, tx, key, out, lines)?,
@@ -63,9 +64,9 @@ pub(crate) fn client_acts(
     requires { (x : ClientState) → found nat_cmp clients.old.entries tx ≡ Some x → May sent.now event.now x }
     ensures outside { IfOk result (λ out. found nat_cmp clients.old.entries tx ≡ None → (clients.new.entries ≡ clients.old.entries) × (out ≡ []) × (lines.new ≡ lines.old)) }
     ensures done { IfOk result (λ out. (x : ClientState) → found nat_cmp clients.old.entries tx ≡ Some x →
-        let act = client_part_lem cluster.now tx sent.now event.now x in
+        let act = acted.client_part cluster.now tx sent.now event.now x in
         (clients.new.entries ≡ replaced clients.old.entries tx act.after) × (out ≡ act.sends) × (lines.new ≡ lines.old ++ act.lines) × (act.refused ≡ None)) }
-    ensures worn { IfErr result (λ e. (x : ClientState) → found nat_cmp clients.old.entries tx ≡ Some x → Wears e (client_part_lem cluster.now tx sent.now event.now x)) }
+    ensures worn { IfErr result (λ e. (x : ClientState) → found nat_cmp clients.old.entries tx ≡ Some x → Wears e (acted.client_part cluster.now tx sent.now event.now x)) }
     ensures outside_refused { IfErr result (λ e. found nat_cmp clients.old.entries tx ≡ None → e ≡ OutOfMemory) }
 {
     let mut out = Messages::new(alloc);

@@ -9,14 +9,15 @@ ghost use Rattle.rc_protocol.specs.Nodes.{CoordNode, coord_after, coord_replayed
 ghost use Rattle.rc_runs.specs.Devices.{powered, armed, opened_once};
 ghost use Rattle.rc_plain_coord.specs.Rows.{Handled};
 ghost use Rattle.rc_world.specs.Disks.{protocol_course};
-ghost use Rattle.rc_world.specs.Hosts.{CoordSite, coord_part as coord_part_lem, CoordWent, Lacks};
+ghost use Rattle.rc_world.specs.Hosts.{CoordSite, CoordWent, Lacks};
+ghost use Rattle.rc_world.specs.Hosts as hosts;
 
 use crate::disk::{Course, Disk};
 use crate::lengths::record_len;
 use crate::network::message;
-use rc_plain_coord::{Coord, CoordFault};
 use rc_ids::{Ballot, Cluster, DcId, NoMemory, Outcome, TxId};
 use rc_msg::{Envelope, Messages};
+use rc_plain_coord::{Coord, CoordFault};
 use rc_record::Record;
 use rc_runs::Event;
 use std::alloc::Global;
@@ -51,8 +52,8 @@ fn coord_act(
     out: &mut Messages,
 ) -> Result<(), CoordFault>
     requires { IsTrue (is_dc cluster.now dc) }
-    ensures done { OnOk result (Handled (coord_part_lem cluster.now dc sent.now event.now coord.old) coord.old coord.new out.old out.new) }
-    ensures lacks { IfErr result (λ e. Lacks e (coord_part_lem cluster.now dc sent.now event.now coord.old)) }
+    ensures done { OnOk result (Handled (hosts.coord_part cluster.now dc sent.now event.now coord.old) coord.old coord.new out.old out.new) }
+    ensures lacks { IfErr result (λ e. Lacks e (hosts.coord_part cluster.now dc sent.now event.now coord.old)) }
 {
     match event {
         Event::Take(_, tx) => coord.take(cluster, dc, *tx, out),
@@ -105,11 +106,11 @@ fn act(
     out: &mut Messages,
 ) -> Result<Course, CoordFault>
     requires { IsTrue (is_dc cluster.now dc) }
-    ensures went { IfOk result (λ course. CoordWent (coord_part_lem cluster.now dc sent.now event.now coord.old)
+    ensures went { IfOk result (λ course. CoordWent (hosts.coord_part cluster.now dc sent.now event.now coord.old)
         (record { node = coord.old; device = disk.old }) (record { node = coord.new; device = disk.new }) (protocol_course course)) }
-    ensures sends { OnOk result (out.new ≡ out.old ++ (coord_part_lem cluster.now dc sent.now event.now coord.old).sends) }
-    ensures whole { OnOk result ((coord_part_lem cluster.now dc sent.now event.now coord.old).spent ≡ false) }
-    ensures lacks { IfErr result (λ e. Lacks e (coord_part_lem cluster.now dc sent.now event.now coord.old)) }
+    ensures sends { OnOk result (out.new ≡ out.old ++ (hosts.coord_part cluster.now dc sent.now event.now coord.old).sends) }
+    ensures whole { OnOk result ((hosts.coord_part cluster.now dc sent.now event.now coord.old).spent ≡ false) }
+    ensures lacks { IfErr result (λ e. Lacks e (hosts.coord_part cluster.now dc sent.now event.now coord.old)) }
 {
     let _up = coord.is_up();
     let before = coord.log_len();
@@ -140,10 +141,10 @@ impl CoordHost {
         out: &mut Messages,
     ) -> Result<Course, CoordFault>
         requires { IsTrue (is_dc cluster.now dc) }
-        ensures went { IfOk result (λ course. CoordWent (coord_part_lem cluster.now dc sent.now event.now self.old.node) self.old self.new (protocol_course course)) }
-        ensures sends { OnOk result (out.new ≡ out.old ++ (coord_part_lem cluster.now dc sent.now event.now self.old.node).sends) }
-        ensures whole { OnOk result ((coord_part_lem cluster.now dc sent.now event.now self.old.node).spent ≡ false) }
-        ensures lacks { IfErr result (λ e. Lacks e (coord_part_lem cluster.now dc sent.now event.now self.old.node)) }
+        ensures went { IfOk result (λ course. CoordWent (hosts.coord_part cluster.now dc sent.now event.now self.old.node) self.old self.new (protocol_course course)) }
+        ensures sends { OnOk result (out.new ≡ out.old ++ (hosts.coord_part cluster.now dc sent.now event.now self.old.node).sends) }
+        ensures whole { OnOk result ((hosts.coord_part cluster.now dc sent.now event.now self.old.node).spent ≡ false) }
+        ensures lacks { IfErr result (λ e. Lacks e (hosts.coord_part cluster.now dc sent.now event.now self.old.node)) }
     {
         let acted = act(
             &mut self.node,

@@ -4,7 +4,8 @@ ghost use Rattle.rc_runs.specs.Devices.{new_device, appended, Made, powered, ope
 ghost use Rattle.rc_runs.specs.Devices.{created, keeps};
 ghost use Rattle.rc_disk.specs.declared.power.Cause.TheVariants.{ByCut};
 ghost use Rattle.rc_world.specs.Starts.{headed, Begins};
-ghost use Rattle.rc_world.specs.Disks.{Appended, falling as falling_lem, nearer_by_append as nearer_lem, reopened};
+ghost use Rattle.rc_world.specs.Disks.{Appended, reopened};
+ghost use Rattle.rc_world.specs.Disks as disks;
 
 use crate::lengths::head_len;
 use rc_ids::{Cluster, NoMemory, NodeId};
@@ -58,7 +59,7 @@ pub(crate) fn counted(count: u64, more: u64) -> Result<u64, NoMemory>
 
 /// The call of an append at which a cut falls that is armed so, with its pick.
 fn falling(cut: Option<(u32, u8)>) -> Option<(u32, u8)>
-    ensures { result ≡ falling_lem cut }
+    ensures { result ≡ disks.falling cut }
 {
     match cut {
         Some((call, pick)) if 1 <= call && call <= APPEND_CALLS => Some((call, pick)),
@@ -68,7 +69,7 @@ fn falling(cut: Option<(u32, u8)>) -> Option<(u32, u8)>
 
 /// A cut that did not fall in an append, after it.
 fn nearer(cut: Option<(u32, u8)>) -> Option<(u32, u8)>
-    ensures { result ≡ nearer_lem cut }
+    ensures { result ≡ disks.nearer_by_append cut }
 {
     match cut {
         Some((call, pick)) => Some((call.saturating_sub(APPEND_CALLS), pick)),

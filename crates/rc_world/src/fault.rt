@@ -6,9 +6,9 @@ ghost use Rattle.rc_world.specs.Acted.{fault_of_client, fault_of_coord};
 ghost use Rattle.rc_world.specs.Sessions.{fault_of_act, fault_of_limit};
 ghost use Rattle.rc_world.specs.declared.fault.LimitFault.TheVariants.{NoMemory as LimitOutOfMemory};
 
+use rc_ids::NoMemory;
 use rc_plain_client::ClientFault;
 use rc_plain_coord::CoordFault;
-use rc_ids::NoMemory;
 use rc_report::{Which, Wrong};
 use std::alloc::{AllocError, AllocFailed};
 

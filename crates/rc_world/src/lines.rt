@@ -2,7 +2,7 @@
 ghost use Rattle.std.specs.Prelude.{◌≡◌, ◌++◌, [], ◌∷◌, OnOk, IfErr, length};
 ghost use Rattle.rc_ids.specs.Texts.{gone};
 ghost use Rattle.rc_report.specs.declared.line.Line.TheVariants.{Settled as SettledLine, Order as OrderLine};
-ghost use Rattle.rc_runs.specs.World.{order as order_lem};
+ghost use Rattle.rc_runs.specs.World as world_spec;
 ghost use Rattle.rc_runs.specs.Refusals.{most_events};
 ghost use Rattle.rc_runs.specs.Script.{by_event, by_lines, each, steps, settles, pending_lines, shown_lines, performs};
 ghost use Rattle.rc_world.specs.Sessions.{Halted, Performed};
@@ -180,8 +180,8 @@ fn print_shown(
 
 /// Prints the committed transactions.
 fn print_order(session: &mut Session, alloc: Global, lines: &mut Lines) -> Result<(), SessionFault>
-    ensures done { OnOk result (Did (by_lines session.old (OrderLine (order_lem session.old.world) ∷ [])) session.new lines.old lines.new) }
-    ensures ended { IfErr result (λ e. Ended e (by_lines session.old (OrderLine (order_lem session.old.world) ∷ [])) lines.old lines.new) }
+    ensures done { OnOk result (Did (by_lines session.old (OrderLine (world_spec.order session.old.world) ∷ [])) session.new lines.old lines.new) }
+    ensures ended { IfErr result (λ e. Ended e (by_lines session.old (OrderLine (world_spec.order session.old.world) ∷ [])) lines.old lines.new) }
 {
     let start = lines.len();
     session.push_order(alloc, lines)?;

@@ -1,9 +1,11 @@
 // The network: all messages that were ever sent, and which of them are pending.
 ghost use Rattle.std.specs.Prelude.{◌≡◌, ◌≤◌, ◌+◌, ◌<◌, ◌++◌, OnOk, IfOk, None, length};
 ghost use Rattle.std.specs.Option.{option_copied};
-ghost use Rattle.rc_runs.specs.World.{envelopes, bytes_of as bytes_of_lem, message as message_lem, taken_out, still_pending, delivered_after};
-ghost use Rattle.rc_runs.specs.Refusals.{is_pending as is_pending_lem};
-ghost use Rattle.rc_world.specs.Networks.{new_network, passed, numbers_of, posted, too_much, oldest as oldest_lem};
+ghost use Rattle.rc_runs.specs.World.{envelopes, taken_out, still_pending, delivered_after};
+ghost use Rattle.rc_runs.specs.World as world;
+ghost use Rattle.rc_runs.specs.Refusals as refusals;
+ghost use Rattle.rc_world.specs.Networks.{new_network, passed, numbers_of, posted, too_much};
+ghost use Rattle.rc_world.specs.Networks as networks;
 
 use crate::disk::counted;
 use rc_ids::{NoMemory, NodeId, Party};
@@ -49,7 +51,7 @@ pub(crate) fn addressed(
 
 /// How many bytes the messages have.
 pub(crate) fn bytes_of(alloc: Global, letters: &[Envelope]) -> Result<u64, NoMemory>
-    ensures { IfOk result (λ bytes. bytes ≡ bytes_of_lem letters.now) }
+    ensures { IfOk result (λ bytes. bytes ≡ world.bytes_of letters.now) }
 {
     let mut bytes = 0;
     for letter in letters {
@@ -127,7 +129,7 @@ impl Network {
 
     /// The oldest pending message.
     pub(crate) fn oldest(&self) -> Option<u32>
-        ensures { result ≡ oldest_lem self.now.pending }
+        ensures { result ≡ networks.oldest self.now.pending }
     {
         self.pending.front().copied()
     }
@@ -141,7 +143,7 @@ impl Network {
 
     /// Whether the message is pending.
     pub(crate) fn is_pending(&self, number: u32) -> bool
-        ensures { result ≡ is_pending_lem self.now.pending number }
+        ensures { result ≡ refusals.is_pending self.now.pending number }
     {
         self.pending.iter().any(|waiting| *waiting == number)
     }
@@ -186,7 +188,7 @@ impl Network {
 
 /// The message with a number.
 pub(crate) fn message(sent: &[Envelope], number: u32) -> Option<&Envelope>
-    ensures { option_copied result ≡ message_lem sent.now number }
+    ensures { option_copied result ≡ world.message sent.now number }
 {
     if number == 0 {
         return None;

@@ -3,7 +3,8 @@ ghost use Rattle.std.specs.Prelude.{◌≡◌, ◌≤◌, ◌<◌, [], List, Opt
 ghost use Rattle.rc_ids.specs.declared.names.Outcome.TheVariants.{Commit as Committed};
 ghost use Rattle.rc_record.specs.declared.record.Record.{Record as RecordState};
 ghost use Rattle.rc_protocol.specs.Nodes.{CoordNode, logged};
-ghost use Rattle.rc_runs.specs.Votes.{has_voted as has_voted_lem, voters as voters_lem, is_listed as is_listed_lem, commits_after, ordered};
+ghost use Rattle.rc_runs.specs.Votes.{commits_after, ordered};
+ghost use Rattle.rc_runs.specs.Votes as votes_spec;
 ghost use Rattle.rc_world.specs.Hosts.{coord_nodes};
 
 use crate::coord_host::CoordHost;
@@ -15,7 +16,7 @@ use rc_record::Record;
 #[tactic(auto, using(crate::proofs::Sites::node_at))]
 fn has_voted(coords: &[CoordHost], tx: TxId, ballot: Ballot, dc: u8) -> bool
     requires { 1 ≤ dc }
-    ensures { result ≡ has_voted_lem (coord_nodes coords.now) Committed tx ballot dc }
+    ensures { result ≡ votes_spec.has_voted (coord_nodes coords.now) Committed tx ballot dc }
 {
     match coords.get(dc as usize - 1) {
         None => false,
@@ -26,7 +27,7 @@ fn has_voted(coords: &[CoordHost], tx: TxId, ballot: Ballot, dc: u8) -> bool
 /// The datacentres that voted for commit at a ballot.
 fn voters(coords: &[CoordHost], tx: TxId, ballot: Ballot, dcs: u8) -> DcSet
     requires { dcs ≤ 7 }
-    ensures { result ≡ voters_lem (coord_nodes coords.now) Committed tx ballot dcs }
+    ensures { result ≡ votes_spec.voters (coord_nodes coords.now) Committed tx ballot dcs }
 {
     let mut set = DcSet::new();
     for place in 0..dcs {
@@ -39,7 +40,7 @@ fn voters(coords: &[CoordHost], tx: TxId, ballot: Ballot, dcs: u8) -> DcSet
 
 /// Whether the transaction is in the list.
 fn is_listed(committed: &[(TxId, Body)], tx: TxId) -> bool
-    ensures { result ≡ is_listed_lem committed.now tx }
+    ensures { result ≡ votes_spec.is_listed committed.now tx }
 {
     committed.iter().any(|(listed, _)| *listed == tx)
 }

@@ -5,10 +5,12 @@ ghost use Rattle.std.specs.Ordering.{nat_cmp};
 ghost use Rattle.rc_ids.specs.Cluster.{is_dc};
 ghost use Rattle.rc_ids.specs.Tables.{found, maybe};
 ghost use Rattle.rc_protocol.specs.Nodes.{coord_index, shard_index};
-ghost use Rattle.rc_runs.specs.Refusals.{named_wrongly, is_begun as is_begun_lem};
+ghost use Rattle.rc_runs.specs.Refusals.{named_wrongly};
+ghost use Rattle.rc_runs.specs.Refusals as refusals;
 ghost use Rattle.rc_body.specs.declared.entry.Entry.{Entry};
 ghost use Rattle.rc_protocol.specs.Client.{Client as ClientState};
-ghost use Rattle.rc_runs.specs.World.{is_shard_of as is_shard_of_lem, with_new_client, is_up as is_up_lem, stops, restarts, Idle};
+ghost use Rattle.rc_runs.specs.World.{with_new_client, stops, restarts, Idle};
+ghost use Rattle.rc_runs.specs.World as world_spec;
 ghost use Rattle.rc_ids.specs.declared.names.NodeId.TheVariants.{Coord as CoordName, Shard as ShardName};
 ghost use Rattle.std.specs.List.{flat_map};
 ghost use Rattle.rc_ids.specs.Tables.{up_to};
@@ -29,9 +31,9 @@ use crate::shard_host::ShardHost;
 use crate::shards::{shard_acts, shard_arms, shard_starts, shard_stops};
 use crate::starts::{new_coords, new_shards};
 use rc_body::Body;
-use rc_plain_client::{Client, Phase};
 use rc_ids::{Cluster, DcId, Key, NoMemory, NodeId, Party, ShardId, TxId};
 use rc_msg::{Envelope, Messages};
+use rc_plain_client::{Client, Phase};
 use rc_report::{Lines, Wrong};
 use rc_runs::Event;
 use std::alloc::Global;
@@ -224,14 +226,14 @@ impl Parties {
 
     /// Whether the transaction was begun.
     pub(crate) fn is_begun(&self, tx: TxId) -> bool
-        ensures { result ≡ is_begun_lem self.now.parties tx }
+        ensures { result ≡ refusals.is_begun self.now.parties tx }
     {
         self.clients.contains_key(&tx)
     }
 
     /// Whether the node is up.
     pub(crate) fn is_up(&self, node: &NodeId) -> bool
-        ensures { result ≡ is_up_lem self.now.parties node.now }
+        ensures { result ≡ world_spec.is_up self.now.parties node.now }
     {
         match node {
             NodeId::Coord(dc) => coord_is_up(&self.cluster, self.coords.as_slice(), *dc),
@@ -262,7 +264,7 @@ impl Parties {
 
 /// Whether the shard server is one of the world.
 fn is_shard_of(cluster: &Cluster, dc: DcId, shard: ShardId) -> bool
-    ensures { result ≡ is_shard_of_lem cluster.now dc shard }
+    ensures { result ≡ world_spec.is_shard_of cluster.now dc shard }
 {
     dc.0 <= cluster.dcs() && shard.0 <= cluster.shards()
 }
@@ -277,7 +279,7 @@ fn place_of(cluster: &Cluster, dc: DcId, shard: ShardId) -> usize
 impl Parties {
     /// A coordinator that is up stops.
     fn stop_coord(&mut self, dc: DcId, lines: &mut Lines) -> Result<(), NoMemory>
-        requires { is_up_lem self.old.parties (CoordName dc) ≡ true }
+        requires { world_spec.is_up self.old.parties (CoordName dc) ≡ true }
         ensures { OnOk result (Acted (stops self.old.parties (CoordName dc)) (stop_work self.old (CoordName dc)) self.old self.new [] lines.old lines.new) }
     {
         coord_stops(&mut self.coords, dc, lines)
@@ -285,7 +287,7 @@ impl Parties {
 
     /// A shard server that is up stops.
     fn stop_shard(&mut self, dc: DcId, shard: ShardId, lines: &mut Lines) -> Result<(), NoMemory>
-        requires { is_up_lem self.old.parties (ShardName dc shard) ≡ true }
+        requires { world_spec.is_up self.old.parties (ShardName dc shard) ≡ true }
         ensures { OnOk result (Acted (stops self.old.parties (ShardName dc shard)) (stop_work self.old (ShardName dc shard)) self.old self.new [] lines.old lines.new) }
     {
         let place = place_of(&self.cluster, dc, shard);
@@ -294,7 +296,7 @@ impl Parties {
 
     /// A node that is up stops.
     pub(crate) fn stop(&mut self, node: &NodeId, lines: &mut Lines) -> Result<(), NoMemory>
-        requires { is_up_lem self.old.parties node.now ≡ true }
+        requires { world_spec.is_up self.old.parties node.now ≡ true }
         ensures { OnOk result (Acted (stops self.old.parties node.now) (stop_work self.old node.now) self.old self.new [] lines.old lines.new) }
     {
         match node {
@@ -307,7 +309,7 @@ impl Parties {
 impl Parties {
     /// The power of the disk of a coordinator that is up is to be cut at this call from now on.
     fn arm_coord(&mut self, dc: DcId, call: u32, pick: u8)
-        requires { is_up_lem self.old.parties (CoordName dc) ≡ true }
+        requires { world_spec.is_up self.old.parties (CoordName dc) ≡ true }
         ensures { Acted Idle (arm_work self.old (CoordName dc) call pick) self.old self.new [] [] [] }
     {
         coord_arms(&mut self.coords, dc, call, pick);
@@ -315,7 +317,7 @@ impl Parties {
 
     /// The power of the disk of a shard server that is up is to be cut at this call from now on.
     fn arm_shard(&mut self, dc: DcId, shard: ShardId, call: u32, pick: u8)
-        requires { is_up_lem self.old.parties (ShardName dc shard) ≡ true }
+        requires { world_spec.is_up self.old.parties (ShardName dc shard) ≡ true }
         ensures { Acted Idle (arm_work self.old (ShardName dc shard) call pick) self.old self.new [] [] [] }
     {
         let place = place_of(&self.cluster, dc, shard);
@@ -324,7 +326,7 @@ impl Parties {
 
     /// The power of the disk of a node that is up is to be cut at this call from now on.
     pub(crate) fn arm(&mut self, node: &NodeId, call: u32, pick: u8)
-        requires { is_up_lem self.old.parties node.now ≡ true }
+        requires { world_spec.is_up self.old.parties node.now ≡ true }
         ensures { Acted Idle (arm_work self.old node.now call pick) self.old self.new [] [] [] }
     {
         match node {
@@ -455,7 +457,7 @@ fn coord_is_up(cluster: &Cluster, coords: &[CoordHost], dc: DcId) -> bool
 /// Whether a shard server is up.
 #[tactic(auto, using(crate::proofs::Sites::shard_node_at))]
 fn shard_is_up(cluster: &Cluster, shards: &[ShardHost], dc: DcId, shard: ShardId) -> bool
-    ensures { result ≡ maybe (if is_shard_of_lem cluster.now dc shard then slice_get (shard_nodes shards.now) (shard_index cluster.now dc shard) else None) false (λ x. x.up) }
+    ensures { result ≡ maybe (if world_spec.is_shard_of cluster.now dc shard then slice_get (shard_nodes shards.now) (shard_index cluster.now dc shard) else None) false (λ x. x.up) }
 {
     if !is_shard_of(cluster, dc, shard) {
         return false;

@@ -3,7 +3,8 @@ ghost use Rattle.std.specs.Prelude.{◌≡◌, ◌≤◌, ◌++◌, [], ◌∷�
 ghost use Rattle.std.specs.List.{flat_map};
 ghost use Rattle.rc_report.specs.declared.line.Line.TheVariants.{Order as OrderLine, Pending as PendingLine};
 ghost use Rattle.rc_runs.specs.World.{order as order_of};
-ghost use Rattle.rc_runs.specs.Session.{prints, text_bytes as text_bytes_lem};
+ghost use Rattle.rc_runs.specs.Session.{prints};
+ghost use Rattle.rc_runs.specs.Session as session_spec;
 ghost use Rattle.rc_runs.specs.Script.{oldest as oldest_of, pending_lines, shown_lines};
 ghost use Rattle.rc_world.specs.Lines.{Counts, Refuses, line_of};
 ghost use Rattle.rc_runs.specs.Session.{happens};
@@ -158,7 +159,7 @@ impl Session {
 
 /// The bytes of the lines.
 fn text_bytes(alloc: Global, lines: &[Line]) -> Result<u64, NoMemory>
-    ensures { IfOk result (λ bytes. bytes ≡ text_bytes_lem lines.now) }
+    ensures { IfOk result (λ bytes. bytes ≡ session_spec.text_bytes lines.now) }
 {
     let mut bytes = 0;
     for line in lines {

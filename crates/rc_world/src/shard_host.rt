@@ -7,16 +7,17 @@ ghost use Rattle.rc_runs.specs.Devices.{powered, armed, opened_once};
 ghost use Rattle.rc_ids.specs.declared.names.NodeId.TheVariants.{Shard as ShardName};
 ghost use Rattle.rc_protocol.specs.Shown.{row_lines};
 ghost use Rattle.rc_world.specs.Disks.{protocol_course};
-ghost use Rattle.rc_world.specs.Hosts.{ShardSite, shard_part as shard_part_lem, ShardWent};
+ghost use Rattle.rc_world.specs.Hosts.{ShardSite, ShardWent};
+ghost use Rattle.rc_world.specs.Hosts as hosts;
 
 use crate::disk::{Course, Disk};
 use crate::lengths::record_len;
 use crate::network::message;
 use rc_ids::{Cluster, DcId, NoMemory, ShardId};
 use rc_msg::{Envelope, Messages};
+use rc_plain_shard::Shard;
 use rc_report::Lines;
 use rc_runs::Event;
-use rc_plain_shard::Shard;
 use std::alloc::Global;
 use std::marker::Model;
 
@@ -49,8 +50,8 @@ fn shard_act(
     event: &Event,
     out: &mut Messages,
 ) -> Result<(), NoMemory>
-    ensures node { OnOk result (node.new ≡ shard_after node.old (shard_part_lem cluster.now dc shard sent.now event.now node.old)) }
-    ensures sends { OnOk result (out.new ≡ out.old ++ (shard_part_lem cluster.now dc shard sent.now event.now node.old).sends) }
+    ensures node { OnOk result (node.new ≡ shard_after node.old (hosts.shard_part cluster.now dc shard sent.now event.now node.old)) }
+    ensures sends { OnOk result (out.new ≡ out.old ++ (hosts.shard_part cluster.now dc shard sent.now event.now node.old).sends) }
 {
     match event {
         Event::Catch(_) => node.catch(dc, out),
@@ -99,9 +100,9 @@ fn act(
     event: &Event,
     out: &mut Messages,
 ) -> Result<Course, NoMemory>
-    ensures went { IfOk result (λ course. ShardWent (shard_part_lem cluster.now dc shard sent.now event.now node.old)
+    ensures went { IfOk result (λ course. ShardWent (hosts.shard_part cluster.now dc shard sent.now event.now node.old)
         (record { node = node.old; device = disk.old }) (record { node = node.new; device = disk.new }) (protocol_course course)) }
-    ensures sends { OnOk result (out.new ≡ out.old ++ (shard_part_lem cluster.now dc shard sent.now event.now node.old).sends) }
+    ensures sends { OnOk result (out.new ≡ out.old ++ (hosts.shard_part cluster.now dc shard sent.now event.now node.old).sends) }
 {
     let _up = node.is_up();
     let before = node.log_len();
@@ -132,8 +133,8 @@ impl ShardHost {
         event: &Event,
         out: &mut Messages,
     ) -> Result<Course, NoMemory>
-        ensures went { IfOk result (λ course. ShardWent (shard_part_lem cluster.now dc shard sent.now event.now self.old.node) self.old self.new (protocol_course course)) }
-        ensures sends { OnOk result (out.new ≡ out.old ++ (shard_part_lem cluster.now dc shard sent.now event.now self.old.node).sends) }
+        ensures went { IfOk result (λ course. ShardWent (hosts.shard_part cluster.now dc shard sent.now event.now self.old.node) self.old self.new (protocol_course course)) }
+        ensures sends { OnOk result (out.new ≡ out.old ++ (hosts.shard_part cluster.now dc shard sent.now event.now self.old.node).sends) }
     {
         let acted = act(
             &mut self.node,

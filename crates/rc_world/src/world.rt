@@ -1,14 +1,16 @@
 // One event on parties and network.
 ghost use Rattle.std.specs.Prelude.{◌≡◌, ◌+◌, ◌<◌, ◌++◌, [], true, false, None, Some, Ok, OnOk, IfOk, IfErr, length};
 ghost use Rattle.std.specs.Option.{option_copied};
-ghost use Rattle.rc_runs.specs.World.{envelopes, bytes_of as bytes_of_lem, deed};
+ghost use Rattle.rc_runs.specs.World.{envelopes, deed};
+ghost use Rattle.rc_runs.specs.World as world_spec;
 ghost use Rattle.std.specs.Prelude.{nat_lt};
 ghost use Rattle.rc_report.specs.Lines.{line_text};
 ghost use Rattle.rc_runs.specs.Refusals.{wrong, wants_up};
 ghost use Rattle.rc_runs.specs.Session.{text_bytes, most_text_bytes, happens};
 ghost use Rattle.rc_world.specs.Networks.{passed, posted, too_much};
 ghost use Rattle.rc_world.specs.declared.fault.ActFault.TheVariants.{NoMemory as OutOfMemory};
-ghost use Rattle.rc_world.specs.Sessions.{session_of, actor_if_any, acts as acts_lem, EventActed, ActRefused, Stepped, late_limit, Halts, Happened, Stay, event_lines, fault_of_limit, SendRefused, Overprints, early_limit as early_limit_lem};
+ghost use Rattle.rc_world.specs.Sessions.{session_of, actor_if_any, EventActed, ActRefused, Stepped, late_limit, Halts, Happened, Stay, event_lines, fault_of_limit, SendRefused, Overprints};
+ghost use Rattle.rc_world.specs.Sessions as sessions;
 
 use crate::SessionFault;
 use crate::disk::counted;
@@ -128,7 +130,7 @@ fn actor(sent: &[Envelope], event: &Event) -> Option<Party>
 
 /// Whether in the event a party does its part that is up.
 fn acts(event: &Event) -> bool
-    ensures { result ≡ acts_lem event.now }
+    ensures { result ≡ sessions.acts event.now }
 {
     match event {
         Event::Begin(_) => false,
@@ -225,7 +227,7 @@ fn act(
 
 /// The limit that an event passes before anybody acts.
 fn early_limit(event: &Event, begun: usize, events: u32) -> Option<Which>
-    ensures { result ≡ early_limit_lem event.now begun events }
+    ensures { result ≡ sessions.early_limit event.now begun events }
 {
     if matches!(event, Event::Begin(_)) && begun >= MOST_TRANSACTIONS {
         return Some(Which::Transactions);
@@ -245,8 +247,8 @@ fn send(
     out: Messages,
 ) -> Result<(), LimitFault>
     ensures sent { OnOk result (let letters = envelopes from.now out in
-        (too_much network.old (length letters) (bytes_of_lem letters) ≡ None) × (network.new ≡ posted (passed network.old event.now) letters (bytes_of_lem letters))) }
-    ensures refused { IfErr result (λ e. let letters = envelopes from.now out in SendRefused e (too_much network.old (length letters) (bytes_of_lem letters))) }
+        (too_much network.old (length letters) (world_spec.bytes_of letters) ≡ None) × (network.new ≡ posted (passed network.old event.now) letters (world_spec.bytes_of letters))) }
+    ensures refused { IfErr result (λ e. let letters = envelopes from.now out in SendRefused e (too_much network.old (length letters) (world_spec.bytes_of letters))) }
 {
     let letters = addressed(alloc, from, out)?;
     let bytes = bytes_of(alloc, letters.as_slice())?;
