@@ -48,4 +48,11 @@ impl Acceptances {
         self.map.insert(tx, (ballot, decision))?;
         Ok(())
     }
+
+    /// What was accepted, by transaction.
+    pub fn into_map(self) -> BTreeMap<TxId, (Ballot, Decision)>
+        ensures { result.entries ≡ self }
+    {
+        self.map
+    }
 }

@@ -83,4 +83,11 @@ impl Outcomes {
         }
         Ok(())
     }
+
+    /// The transactions with their outcomes, in the order in which these were learned.
+    pub fn into_map(self) -> IndexMap<TxId, Decision>
+        ensures { result.entries ≡ self }
+    {
+        self.list
+    }
 }

@@ -50,4 +50,11 @@ impl Promises {
         self.map.insert(tx, raised)?;
         Ok(())
     }
+
+    /// The promises by transaction.
+    pub fn into_map(self) -> BTreeMap<TxId, Ballot>
+        ensures { result.entries ≡ self }
+    {
+        self.map
+    }
 }
