@@ -145,7 +145,7 @@ impl FourImages {
     /// Leaves the image of a pick.
     fn settle(&mut self, pick: u8, spare: usize)
         requires room { HasRoom self.old spare }
-        ensures all_synced { images_of self.new ≡ all_synced (image pick (images_of self.old)) }
+        ensures settled { images_of self.new ≡ all_synced (image pick (images_of self.old)) }
         ensures room { HasRoom self.new spare }
     {
         let clean = self.clean;
@@ -188,7 +188,7 @@ impl FourImages {
         requires inside { fits (call_of event.change written.now) (length self.old.plain.items) }
         requires room { HasRoom self.old spare }
         requires spare { length written.now ≤ spare }
-        ensures images_moved { images_of self.new ≡ images_moved event written.now (images_of self.old) }
+        ensures moved { images_of self.new ≡ images_moved event written.now (images_of self.old) }
         ensures room { HasRoom self.new (spare - length written.now) }
     {
         self.make(event.change, written, spare);

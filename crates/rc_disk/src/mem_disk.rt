@@ -108,7 +108,7 @@ impl MemDisk {
         requires counted { count_of event.change ≡ length written.now }
         requires bytes { length written.now ≤ self.old.spare }
         requires calls { HasPast self.old.past (self.old.calls.spare + 1) self.old.spare }
-        ensures images_moved { images_of self.new.images ≡ images_moved event written.now (images_of self.old.images) }
+        ensures moved { images_of self.new.images ≡ images_moved event written.now (images_of self.old.images) }
         ensures grows { Grows (history_of self.old.past) event written.now (history_of self.new.past) }
         ensures calls { self.new.calls ≡ self.old.calls }
         ensures reads { self.new.reads ≡ self.old.reads }
