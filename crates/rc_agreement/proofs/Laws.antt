@@ -17,7 +17,7 @@ use Rattle.rc_protocol.specs.Nodes.{CoordNode, ShardNode}
 use Rattle.rc_runs.specs.World.{World, coord_at}
 use Rattle.rc_runs.specs.Refusals.{Happening}
 use Rattle.rc_claims.specs.Outcomes.{Agrees, VotesOneBody, Chosen, ListedIsChosen, FinishedIsChosen, ClientsLearnChosen, Tells, ToldIsChosen, ChosenStays, ListsGrow, OrderIsChosen, ChosenIsOrdered, PrintedIsOrdered}
-use Rattle.rc_claims.specs.Lives.{IsLife}
+use Rattle.rc_agreement.proofs.PlainLives.{IsPlainLife}
 use Rattle.rc_agreement.proofs.Places.{node_is, server_is}
 use Rattle.rc_agreement.proofs.Scenes.{Scene, scene}
 use Rattle.rc_agreement.proofs.Ballots.{one_body}
@@ -32,7 +32,7 @@ use Rattle.rc_agreement.proofs.Reopened.{Whole}
 use Rattle.rc_agreement.proofs.Lives.{life_holds}
 use Rattle.rc_agreement.proofs.Printed as prints
 
-module _ (c : Layout) (lay : IsLayout c) (earlier : List World) (w : World) (life : IsLife c earlier w) where
+module _ (c : Layout) (lay : IsLayout c) (earlier : List World) (w : World) (life : IsPlainLife c earlier w) where
   g : Ghost (Whole c) (scene w)
   g = life_holds c lay earlier w life
 

@@ -3,7 +3,7 @@ use Rattle.std.proofs.Common.{◌≡◌, ℕ, zero, suc, List, [], ◌∷◌, re
 use Rattle.std.specs.Prelude.{map, slice_get, slice_set, ◌||◌}
 use Rattle.std.specs.List.{list_any}
 use Rattle.rc_ids.specs.Tables.{In}
-use Rattle.rc_agreement.proofs.Cases.{never, some_is, or_case, or_left, or_right}
+use Rattle.rc_agreement.proofs.Cases.{some_is, or_case, or_left, or_right}
 
 module _ {A : Type 0} (p : A → Bool) where
   pub any_some : (xs : List A) (x : A) → In x xs → p x ≡ true → list_any p xs ≡ true

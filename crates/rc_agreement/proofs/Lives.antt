@@ -6,7 +6,8 @@ use Rattle.rc_ids.specs.declared.names.Outcome.{Outcome}
 use Rattle.rc_runs.specs.World.{World, Start, new_world}
 use Rattle.rc_runs.specs.Refusals.{Happening, run}
 use Rattle.rc_claims.specs.Outcomes.{Chosen, is_named}
-use Rattle.rc_claims.specs.Lives.{IsLife, First, Next, IsStartOf, reopened}
+use Rattle.rc_claims.specs.Lives.{IsStartOf}
+use Rattle.rc_agreement.proofs.PlainLives.{IsPlainLife, First, Next, reopened}
 use Rattle.rc_agreement.proofs.Scenes.{scene, Keeps, run_keeps}
 use Rattle.rc_agreement.proofs.Longer.{Longer}
 use Rattle.rc_agreement.proofs.Stays.{longer_self, longer_trans, longer_kept, chosen_on}
@@ -32,7 +33,7 @@ whole_kept c lay =
       clients = λ s u x a is due p. (k.clients s u x a is due p.0, m.clients s u x a is due p.1);
     }
 
-pub life_holds : (c : Layout) → IsLayout c → (earlier : List World) (w : World) → IsLife c earlier w → Ghost (Whole c) (scene w)
+pub life_holds : (c : Layout) → IsLayout c → (earlier : List World) (w : World) → IsPlainLife c earlier w → Ghost (Whole c) (scene w)
 life_holds c lay _ _ (First hs) =
     run_keeps (Ghost (Whole c)) (ghosts_kept (Whole c) (whole_kept c lay)) (new_world c) hs (no_ghosts (Whole c) (scene (new_world c)) ((new_agrees c, new_heard c), new_ordered c lay))
 life_holds c lay _ _ (Next earlier v start hs before is_start) =
@@ -45,7 +46,7 @@ longer_again c v start is_start g = record { layout = refl; votes = vote_up c v 
 longer_run : (w : World) (hs : List Happening) → Longer (scene w) (scene (run w hs))
 longer_run w hs = run_keeps (Longer (scene w)) (longer_kept (scene w)) w hs (longer_self (scene w))
 
-pub longer_life : (c : Layout) → IsLayout c → (earlier : List World) (w : World) → IsLife c earlier w → (v : World) → In v earlier → Longer (scene v) (scene w)
+pub longer_life : (c : Layout) → IsLayout c → (earlier : List World) (w : World) → IsPlainLife c earlier w → (v : World) → In v earlier → Longer (scene v) (scene w)
 longer_life c lay _ _ (First hs) v i = absurd i
 longer_life c lay _ _ (Next earlier u start hs before is_start) v i =
     let now = longer_trans (scene u) (scene (reopened u start)) (scene (run (reopened u start) hs)) (longer_again c u start is_start (life_holds c lay earlier u before)) (longer_run (reopened u start) hs) in
@@ -55,13 +56,13 @@ longer_life c lay _ _ (Next earlier u start hs before is_start) v i =
     i
 
 -- and so does what it chose
-pub chosen_life : (c : Layout) → IsLayout c → (earlier : List World) (w : World) → IsLife c earlier w → (v : World) → In v earlier → (outcome : Outcome) (t : ℕ) → Chosen v outcome t → Chosen w outcome t
+pub chosen_life : (c : Layout) → IsLayout c → (earlier : List World) (w : World) → IsPlainLife c earlier w → (v : World) → In v earlier → (outcome : Outcome) (t : ℕ) → Chosen v outcome t → Chosen w outcome t
 chosen_life c lay earlier w life v i outcome t h =
     let l = longer_life c lay earlier w life v i in
     chosen_on (scene v) (scene w) l (subst IsLayout l.layout (life_holds c lay earlier w life).holds.1.layout) t outcome h
 
 -- what its logs name is named
-pub named_life : (c : Layout) (earlier : List World) (w : World) → IsLife c earlier w → (v : World) → In v earlier → (t : ℕ) → is_named v.parties t ≡ true → is_named w.parties t ≡ true
+pub named_life : (c : Layout) (earlier : List World) (w : World) → IsPlainLife c earlier w → (v : World) → In v earlier → (t : ℕ) → is_named v.parties t ≡ true → is_named w.parties t ≡ true
 named_life c _ _ (First hs) v i t n = absurd i
 named_life c _ _ (Next earlier u start hs before is_start) v i t n =
     named_stays t (reopened u start) hs (named_again t u start

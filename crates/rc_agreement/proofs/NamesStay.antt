@@ -1,6 +1,6 @@
 -- A transaction that a log names is named ever after: logs grow at their end, and a life begins with those of the one before.
-use Rattle.std.proofs.Common.{◌≡◌, ℕ, zero, suc, List, [], ◌∷◌, ◌++◌, refl, sym, ap, ◌∙◌, subst, Bool, true, Option, Some, None, ⊎_elim}
-use Rattle.std.specs.Prelude.{map, slice_get, slice_set, ◌||◌}
+use Rattle.std.proofs.Common.{◌≡◌, ℕ, List, [], ◌∷◌, ◌++◌, refl, sym, ap, ◌∙◌, subst, Bool, true, Option, Some, None, ⊎_elim}
+use Rattle.std.specs.Prelude.{slice_get, slice_set, ◌||◌}
 use Rattle.std.specs.Ordering.{nat_cmp}
 use Rattle.std.specs.List.{list_any}
 use Rattle.rc_ids.specs.Tables.{In, member}
@@ -10,7 +10,7 @@ use Rattle.rc_protocol.specs.Nodes.{CoordNode, ShardNode, coord_index, shard_ind
 use Rattle.rc_runs.specs.World.{World, Parties, Start, coord_at, shard_at, with_coord, with_shard}
 use Rattle.rc_runs.specs.Refusals.{Happening, run}
 use Rattle.rc_claims.specs.Outcomes.{is_named}
-use Rattle.rc_claims.specs.Lives.{reopened}
+use Rattle.rc_agreement.proofs.PlainLives.{reopened}
 use Rattle.rc_agreement.proofs.Cases.{or_case, or_left, or_right}
 use Rattle.rc_agreement.proofs.Lists.{any_set, any_map}
 use Rattle.rc_agreement.proofs.Places.{coord_dc, shard_there}

@@ -24,7 +24,7 @@ use Rattle.rc_agreement.proofs.Tables.{in_right, in_either}
 use Rattle.rc_agreement.proofs.Places.{node_is, coord_set, put_each}
 use Rattle.rc_agreement.proofs.Scenes.{Scene, scene, at, There, act_of, Keeps}
 use Rattle.rc_agreement.proofs.Ballots.{Vote}
-use Rattle.rc_agreement.proofs.Votes.{new_vote, old_vote}
+use Rattle.rc_agreement.proofs.Votes.{new_vote}
 use Rattle.rc_agreement.proofs.Agreeing.{new_node}
 use Rattle.rc_agreement.proofs.Choices.{ChosenIn, choice_of, chosen_of}
 use Rattle.rc_agreement.proofs.Longer.{Longer, longer_logged}

@@ -22,7 +22,8 @@ use Rattle.rc_protocol.specs.Client.{Client}
 use Rattle.rc_protocol.specs.Nodes.{CoordNode, ShardNode, coord_index, shard_index, coord_started, shard_started, shard_replayed}
 use Rattle.rc_runs.specs.Votes.{is_listed}
 use Rattle.rc_runs.specs.World.{World, Start}
-use Rattle.rc_claims.specs.Lives.{IsStartOf, reopened}
+use Rattle.rc_claims.specs.Lives.{IsStartOf}
+use Rattle.rc_agreement.proofs.PlainLives.{reopened}
 use Rattle.rc_agreement.proofs.Cases.{never}
 use Rattle.rc_agreement.proofs.Scenes.{Scene, scene, at, shard_in}
 use Rattle.rc_agreement.proofs.Said.{Said}

@@ -2,7 +2,7 @@
 use Rattle.std.proofs.Common.{◌≡◌, ℕ, List, [], ◌∷◌, ◌++◌, refl, sym, ap, ◌∙◌, subst, Bool, true, false, Option, Some, None, append_assoc}
 use Rattle.std.specs.Prelude.{◌||◌}
 use Rattle.std.proofs.lemmas.List.{append-nil}
-use Rattle.rc_ids.specs.Tables.{In, maybe}
+use Rattle.rc_ids.specs.Tables.{maybe}
 use Rattle.rc_ids.specs.Cluster.{Layout, IsLayout, is_quorum}
 use Rattle.rc_ids.proofs.QuorumFacts.{quorum_laws}
 use Rattle.rc_ids.specs.declared.names.Outcome.{Outcome}
@@ -22,7 +22,6 @@ use Rattle.rc_claims.specs.Outcomes.{IsPrefix, ChosenStays, OrderGrows, ListsGro
 use Rattle.rc_agreement.proofs.Cases.{on_cond, on_maybe}
 use Rattle.rc_agreement.proofs.Places.{node_is, put_each}
 use Rattle.rc_agreement.proofs.Scenes.{Scene, scene, at, There, act_of, started, Keeps, run_keeps}
-use Rattle.rc_agreement.proofs.Ballots.{Vote}
 use Rattle.rc_agreement.proofs.CoordKeeps.{node_after}
 use Rattle.rc_agreement.proofs.Agreeing.{AllAgree, agreeing_kept}
 use Rattle.rc_agreement.proofs.Choices.{Choice, ChosenIn, choice_of, chosen_of}

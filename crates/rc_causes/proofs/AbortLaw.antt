@@ -1,25 +1,25 @@
--- Why aborts are printed, in every life.
-use Rattle.std.proofs.Common.{◌≡◌, ℕ, List, [], ◌∷◌, refl, sym, ap, ◌∙◌, subst, Bool, true, false, Option, Some, None, ◌⊎◌, inl, inr, ⊎_elim, true≢false}
+-- Why aborts are printed, in every plain life.
+use Rattle.std.proofs.Common.{◌≡◌, ℕ, List, [], ◌∷◌, refl, sym, ap, ◌∙◌, subst, Bool, true, false, Some, None, ◌⊎◌, inl, inr, ⊎_elim, true≢false}
 use Rattle.std.specs.Prelude.{◌||◌, is_some}
 use Rattle.std.specs.Ordering.{nat_cmp}
 use Rattle.rc_ids.specs.Tables.{Table, In, found, put, member}
 use Rattle.rc_ids.specs.Cluster.{Layout, IsLayout}
-use Rattle.rc_ids.specs.declared.names.Outcome.TheVariants.{Commit as Committed, Abort as Aborted}
+use Rattle.rc_ids.specs.declared.names.Outcome.TheVariants.{Abort as Aborted}
 use Rattle.rc_body.specs.Decisions.{outcome_of}
 use Rattle.rc_body.specs.declared.decision.Decision.{Decision}
 use Rattle.rc_body.specs.declared.decision.Decision.TheVariants.{Commit, Abort}
 use Rattle.rc_record.specs.declared.record.Record.{Record}
 use Rattle.rc_record.specs.declared.record.Record.TheVariants.{Accepted}
-use Rattle.rc_report.specs.declared.line.Line.TheVariants.{Learned}
 use Rattle.rc_protocol.specs.Client.{Client, new_client}
 use Rattle.rc_protocol.specs.Acts.{client_by_row}
-use Rattle.rc_protocol.specs.Nodes.{CoordNode, coord_started}
+use Rattle.rc_protocol.specs.Nodes.{coord_started}
 use Rattle.rc_runs.specs.Votes.{IsChosen}
-use Rattle.rc_runs.specs.World.{World, Parties, Start, coord_at, replaced, new_world}
-use Rattle.rc_runs.specs.Refusals.{Happening, is_begun, after_event, run, lines}
+use Rattle.rc_runs.specs.World.{World, Parties, Start, replaced, new_world}
+use Rattle.rc_runs.specs.Refusals.{Happening, after_event, run}
 use Rattle.rc_claims.specs.Outcomes.{Chosen}
-use Rattle.rc_claims.specs.Lives.{IsLife, First, Next, IsStartOf, reopened}
-use Rattle.rc_agreement.proofs.Cases.{never, or_right}
+use Rattle.rc_claims.specs.Lives.{IsStartOf}
+use Rattle.rc_agreement.proofs.PlainLives.{IsPlainLife, First, Next, reopened}
+use Rattle.rc_agreement.proofs.Cases.{never}
 use Rattle.rc_agreement.proofs.Tables.{put_cases, set_cases}
 use Rattle.rc_agreement.proofs.Places.{node_at, node_is, logged_there}
 use Rattle.rc_agreement.proofs.Scenes.{Scene, scene, Keeps, event_keeps, run_keeps}
@@ -29,11 +29,15 @@ use Rattle.rc_agreement.proofs.Named.{vote_names, coord_named}
 use Rattle.rc_agreement.proofs.Ghosts.{with_ghosts, Ghost, ghosts_kept}
 use Rattle.rc_agreement.proofs.Reopened.{Whole, at_open}
 use Rattle.rc_agreement.proofs.Lives.{whole_kept, life_holds}
-use Rattle.rc_causes.specs.Moments.{PrintsNow}
-use Rattle.rc_causes.specs.Aborts.{Begins, New, Again, WasTaken, IsRefusedByMany, AbortsHaveCauses}
+use Rattle.rc_causes.specs.Aborts.{AbortsHaveCauses}
 use Rattle.rc_causes.proofs.Clear.{NodeClear, Clear}
 use Rattle.rc_causes.proofs.Aborting.{State, run_state}
 use Rattle.rc_causes.proofs.Telling.{TellsNow, told_now, Lives, chosen_now}
+
+-- a world as a plain life begins
+pub data BeginsPlainly (c : Layout) : World → Type 0 where
+  New : BeginsPlainly c (new_world c)
+  Again : (earlier : List World) (v : World) (start : Start) → IsPlainLife c earlier v → IsStartOf v start → BeginsPlainly c (reopened v start)
 
 -- TRANSACTIONS THAT LOGS NAME have no client
 abbrev Gone : ℕ → Scene → Type 0
@@ -72,7 +76,7 @@ gone_kept t =
 
 -- AS A LIFE BEGINS
 module _ (c : Layout) (lay : IsLayout c) where
-  life_of : (w : World) → Begins c w → (earlier : List World) × IsLife c earlier w
+  life_of : (w : World) → BeginsPlainly c w → (earlier : List World) × IsPlainLife c earlier w
   life_of _ New = ([], First [])
   life_of _ (Again earlier v start life is_start) = (v ∷ earlier, Next earlier v start [] life is_start)
 
@@ -85,7 +89,7 @@ module _ (c : Layout) (lay : IsLayout c) where
     asked = λ e i. absurd i;
   }
 
-  module _ (earlier : List World) (v : World) (start : Start) (life : IsLife c earlier v) (is_start : IsStartOf v start) where
+  module _ (earlier : List World) (v : World) (start : Start) (life : IsPlainLife c earlier v) (is_start : IsStartOf v start) where
     g : Ghost (Whole c) (scene v)
     g = life_holds c lay earlier v life
 
@@ -98,7 +102,7 @@ module _ (c : Layout) (lay : IsLayout c) where
       asked = λ e i. absurd i;
     }
 
-  first_state : (w : World) → Begins c w → (t : ℕ) → (Gone t (scene w)) ⊎ State c w t [] [] w.parties w.sent
+  first_state : (w : World) → BeginsPlainly c w → (t : ℕ) → (Gone t (scene w)) ⊎ State c w t [] [] w.parties w.sent
   first_state _ New t = inr (record { layout = refl; counted = λ x is d i. never x is; clear = inr (new_clear t) })
   first_state _ (Again earlier v start life is_start) t = go (member nat_cmp start.named t) refl
     where
@@ -124,7 +128,7 @@ module _ (c : Layout) (lay : IsLayout c) where
       let abort : In (Accepted t h.ballot Abort) (node_at w.parties m.0).log = subst (λ (o : Decision). In (Accepted t h.ballot o) (node_at w.parties m.0).log) (abort_is vote.0 vote.1) vote.2 in
       (clear.nodes m.0 (node_at w.parties m.0) (logged_there w.parties m.0 (Accepted t h.ballot Abort) abort)).votes h.ballot abort
 
-  pub aborts_have_causes : (w : World) → Begins c w → (before : List Happening) (now : Happening) → AbortsHaveCauses c w before now
+  pub aborts_have_causes : (w : World) → BeginsPlainly c w → (before : List Happening) (now : Happening) → AbortsHaveCauses c w before now
   aborts_have_causes w begins before now t i =
       let life = life_of w begins in
       let v : World = run w before in

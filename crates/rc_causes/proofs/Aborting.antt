@@ -25,14 +25,13 @@ use Rattle.rc_runs.specs.World.{World, Parties, Deed, ByClient, ByCoord, ByShard
 use Rattle.rc_runs.specs.Refusals.{Happening, is_event, after_event, run, lines_at, lines}
 use Rattle.rc_agreement.proofs.Cases.{nat_dec, some_is, never}
 use Rattle.rc_agreement.proofs.Tables.{in_left, in_right, put_cases, set_cases}
-use Rattle.rc_causes.specs.Moments.{Moment, world_at}
+use Rattle.rc_causes.specs.Moments.{Moment}
 use Rattle.rc_causes.specs.Aborts.{WasTaken, IsRefusedByMany}
-use Rattle.rc_causes.proofs.Says.{Dull}
 use Rattle.rc_causes.proofs.Moves.{Move, Rests, ClientActs, CoordActs, CoordWakes, CoordHalts, CoordCrashes, ShardActs, ShardWakes, ShardHalts, ShardCrashes, move_of, CoordWhy, coord_joins, shard_joins, client_joins}
 use Rattle.rc_causes.proofs.ClientSays.{ClientRow, ClientSay, client_row_of}
 use Rattle.rc_causes.proofs.CoordSays.{OpensFor}
 use Rattle.rc_causes.proofs.ShardSays.{ShardSay, shard_row_of}
-use Rattle.rc_causes.proofs.Clear.{Pushes, Clear, more_asked, dull_pushes, no_vote, opens_by, turn_clear, halt_clear, wake_clear}
+use Rattle.rc_causes.proofs.Clear.{Pushes, Clear, more_asked, no_vote, opens_by, turn_clear, halt_clear, wake_clear}
 
 opens_dec : (k : NodeCause) (t : ℕ) → OpensFor k t ⊎ (OpensFor k t → ⊥)
 opens_dec (Takes u) t = nat_dec u t

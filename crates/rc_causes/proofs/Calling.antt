@@ -1,12 +1,11 @@
 -- The calls of an append, one after another.
-use Rattle.std.proofs.Common.{◌≡◌, ℕ, zero, suc, ◌+◌, ◌-◌, ◌<◌, ◌≤◌, List, refl, sym, ap, ◌∙◌, subst, Bool, true, false, cond, Option, Some, None, arith, eqb-true}
+use Rattle.std.proofs.Common.{◌≡◌, ℕ, zero, suc, ◌+◌, ◌-◌, ◌≤◌, List, refl, sym, ap, ◌∙◌, subst, true, cond, Option, Some, None, arith, eqb-true}
 use Rattle.std.specs.Prelude.{◌==◌}
 use Rattle.std.specs.Option.{option_map}
 use Rattle.rc_ids.specs.Tables.{maybe}
 use Rattle.rc_disk.specs.declared.power.Cause.{Cause}
-use Rattle.rc_disk.specs.declared.power.Cause.TheVariants.{ByList, ByCut, WhileOff}
-use Rattle.rc_protocol.specs.Messages.{or_else}
-use Rattle.rc_runs.specs.Devices.{Device, Fate, Made, Full, FailsAt, is_number, listed, falls_now, next_fails, nearer, called, at_offset, in_a_row, offset_after, is_too_long, is_kept, appends, appended}
+use Rattle.rc_disk.specs.declared.power.Cause.TheVariants.{ByList, ByCut}
+use Rattle.rc_runs.specs.Devices.{Device, Fate, Made, Full, FailsAt, is_number, listed, falls_now, next_fails, nearer, called, at_offset, in_a_row, offset_after, is_too_long, is_kept, appends}
 use Rattle.rc_agreement.proofs.Cases.{on_cond, on_maybe, never, some_is}
 use Rattle.rc_causes.specs.Calls.{Fails, MakesCalls, AppendsAreTold}
 

@@ -1,10 +1,8 @@
 -- While nobody takes a transaction over or gives it up, no vote to abort it is cast.
-use Rattle.std.proofs.Common.{◌≡◌, ℕ, List, [], ◌∷◌, ◌++◌, refl, sym, ap, ◌∙◌, subst, Bool, true, false, Option, Some, None, ◌⊎◌, inl, inr, ⊎_elim}
-use Rattle.std.specs.Ordering.{nat_cmp}
-use Rattle.rc_ids.specs.Tables.{In, found}
+use Rattle.std.proofs.Common.{◌≡◌, ℕ, List, [], ◌∷◌, ◌++◌, refl, sym, ap, ◌∙◌, subst, Option, Some, None, ⊎_elim}
+use Rattle.rc_ids.specs.Tables.{In}
 use Rattle.rc_ids.specs.declared.names.Party.{Party}
-use Rattle.rc_body.specs.declared.decision.Decision.{Decision}
-use Rattle.rc_body.specs.declared.decision.Decision.TheVariants.{Commit, Abort}
+use Rattle.rc_body.specs.declared.decision.Decision.TheVariants.{Abort}
 use Rattle.rc_msg.specs.declared.msg.Envelope.{Envelope}
 use Rattle.rc_msg.specs.declared.msg.Msg.{Msg}
 use Rattle.rc_msg.specs.declared.msg.Msg.TheVariants.{Propose, Abandon}

@@ -1,23 +1,23 @@
 -- What a client prints and says, by its rows.
-use Rattle.std.proofs.Common.{◌≡◌, ℕ, List, [], ◌∷◌, refl, sym, ap, ◌∙◌, subst, Bool, true, false, Option, Some, None, ◌⊎◌, inl, inr, ⊎_elim, eqb-true}
+use Rattle.std.proofs.Common.{◌≡◌, ℕ, List, [], ◌∷◌, refl, sym, ap, ◌∙◌, subst, true, Option, None, ◌⊎◌, inl, inr, ⊎_elim, eqb-true}
 use Rattle.std.specs.Prelude.{not, ◌&&◌, ◌==◌}
 use Rattle.std.specs.Ordering.{nat_cmp}
 use Rattle.rc_ids.specs.Tables.{In, added, member}
 use Rattle.rc_ids.specs.Cluster.{Layout, is_dc, is_quorum, home, shard_of}
 use Rattle.rc_ids.specs.declared.names.Party.{Party}
 use Rattle.rc_body.specs.declared.decision.Decision.{Decision}
-use Rattle.rc_body.specs.declared.decision.Decision.TheVariants.{Commit, Abort}
+use Rattle.rc_body.specs.declared.decision.Decision.TheVariants.{Commit}
 use Rattle.rc_body.specs.Decisions.{outcome_of}
 use Rattle.rc_body.specs.declared.reason.Reason.{Reason}
 use Rattle.rc_msg.specs.declared.msg.Msg.{Msg}
-use Rattle.rc_msg.specs.declared.msg.Msg.TheVariants.{ReadAsk, ReadCancel, Granted, Propose, Prepared, Voted, Refused, Decided, Abandon}
+use Rattle.rc_msg.specs.declared.msg.Msg.TheVariants.{ReadAsk, ReadCancel, Granted, Propose, Voted, Refused, Decided, Abandon}
 use Rattle.rc_report.specs.declared.line.Line.{Line}
 use Rattle.rc_report.specs.declared.line.Line.TheVariants.{Read as ReadLine, Own, Refused as RefusedLine, Learned}
-use Rattle.rc_protocol.specs.Messages.{Posts, coordinator, shard_server, one, to_all}
+use Rattle.rc_protocol.specs.Messages.{Posts, coordinator, shard_server, to_all}
 use Rattle.rc_protocol.specs.Coordinator.{is_decided_by}
-use Rattle.rc_protocol.specs.Client.{Client, ClientAct, ClientRefusal, KeyWornOut, Slot, KeyRead, Complete, Grant, Proposed, is_over, is_committing, is_proposed, reads_on, client_stays, client_says, in_phase, with_slots, is_worn, body_of, proposes, slot_of, slot_set, asks, asks_all, asks_new, asks_rest, asks_again, unread_keys, waiting_keys, reads_again, do_read, is_under_way, waits_for_read, reads_begun, do_commit, drops_read, do_cancel, do_retry, best_grant, grants_of, granted_by, cancels, cancel_to, completed, read_line, after_read, unless_refused, with_grant, prints_of, takes_grant, wants_grant, on_granted, with_vote, client_learns, gives_up, counts_refusal, on_refused, client_row}
+use Rattle.rc_protocol.specs.Client.{Client, ClientAct, ClientRefusal, Slot, KeyRead, Complete, Grant, is_over, is_committing, is_proposed, reads_on, client_stays, client_says, with_slots, is_worn, body_of, proposes, slot_of, slot_set, asks, asks_all, asks_new, asks_rest, asks_again, unread_keys, waiting_keys, reads_again, do_read, is_under_way, waits_for_read, reads_begun, do_commit, drops_read, do_cancel, do_retry, best_grant, grants_of, granted_by, cancels, cancel_to, completed, read_line, after_read, unless_refused, with_grant, prints_of, takes_grant, wants_grant, on_granted, with_vote, client_learns, counts_refusal, on_refused, client_row}
 use Rattle.rc_protocol.specs.Acts.{ClientCause, Hears, Reads, Writes, Commits, Cancels, Retries, Vanishes, client_by_row, client_act, refusal}
-use Rattle.rc_agreement.proofs.Cases.{on_cond, on_maybe, and_left, and_right}
+use Rattle.rc_agreement.proofs.Cases.{on_cond, on_maybe, and_left}
 use Rattle.rc_agreement.proofs.Tables.{in_added}
 use Rattle.rc_agreement.proofs.Sends.{EachTo, to_none, to_one, to_both, to_many, to_coords}
 use Rattle.rc_causes.proofs.Says.{Dull, Dulls, Common, Commons, no_lines, one_line}

@@ -1,13 +1,11 @@
 -- What a coordinator says and votes, by its rows: why it refuses, and where aborts come from.
-use Rattle.std.proofs.Common.{◌≡◌, ℕ, ◌<◌, List, [], ◌∷◌, refl, sym, ap, ◌∙◌, subst, Bool, true, false, Option, Some, None, ◌⊎◌, inl, inr, ⊎_elim, length, ltb-true}
+use Rattle.std.proofs.Common.{◌≡◌, ℕ, ◌<◌, List, [], ◌∷◌, refl, ◌∙◌, subst, Bool, true, false, Option, Some, None, ◌⊎◌, inl, inr, ⊎_elim, length, ltb-true}
 use Rattle.std.specs.Prelude.{not, ◌&&◌, ◌==◌, ◌+◌, nat_lt}
 use Rattle.std.specs.Ordering.{nat_cmp}
-use Rattle.std.specs.List.{list_all}
-use Rattle.rc_ids.specs.Tables.{Table, In, found, put, without, member}
-use Rattle.rc_ids.specs.Cluster.{Layout, all_dcs, is_dc, is_shard, is_quorum, owner_of, next_ballot}
+use Rattle.rc_ids.specs.Tables.{In, found, put, member}
+use Rattle.rc_ids.specs.Cluster.{Layout, is_dc, is_shard, owner_of, next_ballot}
 use Rattle.rc_ids.specs.declared.names.Party.{Party}
 use Rattle.rc_body.specs.Bodies.{part, touches}
-use Rattle.rc_body.specs.declared.entry.Entry.{Entry}
 use Rattle.rc_body.specs.declared.decision.Decision.{Decision}
 use Rattle.rc_body.specs.declared.decision.Decision.TheVariants.{Commit, Abort}
 use Rattle.rc_body.specs.declared.reason.Reason.{Reason}
@@ -17,7 +15,7 @@ use Rattle.rc_msg.specs.declared.msg.Msg.TheVariants.{Propose, Prepare, Prepared
 use Rattle.rc_record.specs.declared.record.Record.{Record}
 use Rattle.rc_record.specs.declared.record.Record.TheVariants.{Promised, Accepted}
 use Rattle.rc_protocol.specs.Messages.{Posts, coordinator, shard_server, client_of, one, to_each, to_all, most_entries}
-use Rattle.rc_protocol.specs.Coordinator.{CoordDurable, CoordVolatile, CoordAct, GatherState, TakeoverState, promise_of, outcome_of, coord_stays, coord_says, if_decided, proposer, vote, accepts, finish_to, finish_posts, forgotten, coord_learns, opening, takes_over, has_all, with_gather, prepare_to, gathers_on, gather_at, takes_proposal, refuses, accepted_at, on_propose, waiting_gather, with_yes, said_yes, on_prepared, promise_record, promises_at, on_ask, hears, chooses, waiting_takeover, with_takeover, proposed, proposes_or_waits, on_promise, with_vote, tally_of, is_decided_by, on_voted, on_decided, on_abandon, do_catch, page_from, cursor_of, is_next_coord_page, with_coord_cursor, undecided, forgotten_all, finish_all_posts, outcomes_record, asks_next_coord_page, takes_page, on_catch_page, coord_row}
+use Rattle.rc_protocol.specs.Coordinator.{CoordDurable, CoordVolatile, CoordAct, GatherState, TakeoverState, promise_of, outcome_of, coord_stays, coord_says, proposer, vote, accepts, finish_to, finish_posts, forgotten, coord_learns, opening, takes_over, has_all, with_gather, prepare_to, gathers_on, gather_at, takes_proposal, refuses, accepted_at, on_propose, waiting_gather, with_yes, said_yes, on_prepared, promise_record, promises_at, on_ask, hears, chooses, waiting_takeover, proposed, proposes_or_waits, on_promise, with_vote, tally_of, is_decided_by, on_voted, on_decided, do_catch, page_from, cursor_of, is_next_coord_page, with_coord_cursor, undecided, forgotten_all, finish_all_posts, outcomes_record, asks_next_coord_page, takes_page, on_catch_page, coord_row}
 use Rattle.rc_protocol.specs.Acts.{NodeCause, Came, Catches, Takes, coord_act}
 use Rattle.rc_agreement.proofs.Cases.{on_cond, on_maybe, never}
 use Rattle.rc_agreement.proofs.Tables.{in_put, in_without, found_in}

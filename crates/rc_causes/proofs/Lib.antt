@@ -10,4 +10,10 @@ pub mod Refusing
 pub mod Clear
 pub mod Aborting
 pub mod AbortLaw
+pub mod LifeCauses
 pub mod Calling
+pub mod Counting
+pub mod ReadSlots
+pub mod ReadFits
+pub mod ReadGrants
+pub mod Unreading

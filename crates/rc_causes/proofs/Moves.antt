@@ -1,5 +1,5 @@
 -- What a deed of an event may be, and why its party acts.
-use Rattle.std.proofs.Common.{◌≡◌, ℕ, List, refl, ap, Bool, Option, Some, None}
+use Rattle.std.proofs.Common.{◌≡◌, ℕ, List, refl, ap, Bool, Some, None}
 use Rattle.std.specs.Ordering.{nat_cmp}
 use Rattle.rc_ids.specs.Tables.{found}
 use Rattle.rc_ids.specs.declared.names.NodeId.{NodeId}

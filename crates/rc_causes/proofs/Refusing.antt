@@ -1,11 +1,10 @@
 -- Why refusals are printed.
-use Rattle.std.proofs.Common.{◌≡◌, ℕ, zero, ◌<◌, List, [], ◌∷◌, ◌++◌, refl, sym, ap, ◌∙◌, subst, Bool, true, false, cond, Option, Some, None, ◌⊎◌, inl, inr, ⊎_elim}
+use Rattle.std.proofs.Common.{◌≡◌, ℕ, ◌<◌, List, [], refl, sym, ◌∙◌, subst, Bool, true, false, cond, Some, None, ⊎_elim}
 use Rattle.std.specs.Prelude.{◌==◌, ◌-◌}
 use Rattle.rc_ids.specs.Tables.{In}
 use Rattle.rc_ids.specs.Cluster.{Layout}
 use Rattle.rc_ids.specs.declared.names.NodeId.TheVariants.{Coord, Shard as ShardServer}
 use Rattle.rc_ids.specs.declared.names.Party.{Party}
-use Rattle.rc_ids.specs.declared.names.Party.TheVariants.{Node}
 use Rattle.rc_body.specs.declared.entry.Entry.{Entry}
 use Rattle.rc_body.specs.declared.reason.Reason.{Reason}
 use Rattle.rc_body.specs.declared.reason.Reason.TheVariants.{Locked, Lost, Stale, Promised}
@@ -18,15 +17,15 @@ use Rattle.rc_runs.specs.declared.event.Event.TheVariants.{Restart}
 use Rattle.rc_protocol.specs.Messages.{coordinator, shard_server, client_of}
 use Rattle.rc_protocol.specs.Coordinator.{promise_of, new_volatile as new_coord_volatile}
 use Rattle.rc_protocol.specs.Shard.{test}
-use Rattle.rc_protocol.specs.Nodes.{CoordNode, ShardNode, coord_started, shard_started}
-use Rattle.rc_protocol.specs.Acts.{NodeCause, Came, Catches, Hears}
+use Rattle.rc_protocol.specs.Nodes.{CoordNode, ShardNode, shard_started}
+use Rattle.rc_protocol.specs.Acts.{NodeCause, Came, Catches}
 use Rattle.rc_runs.specs.World.{World, Start, Deed, started_world, coord_at, shard_at, message, actor, sends_of, lines_of, restart_lines, course_deed, printed}
 use Rattle.rc_runs.specs.Refusals.{Happening, is_event, run}
 use Rattle.rc_agreement.proofs.Cases.{on_cond, never}
 use Rattle.rc_agreement.proofs.Tables.{in_either, got_in}
 use Rattle.rc_agreement.proofs.Sends.{in_sent}
 use Rattle.rc_causes.specs.Moments.{Moment, world_at, SendsNow, DeliversNow, PrintsNow}
-use Rattle.rc_causes.specs.Refused.{IsTested, CameFromShard, IsWhy, WasRefused, RefusalsHaveCauses}
+use Rattle.rc_causes.specs.Refused.{IsTested, CameFromShard, IsWhy, RefusalsHaveCauses}
 use Rattle.rc_causes.proofs.Moves.{Move, Rests, ClientActs, CoordActs, CoordWakes, CoordHalts, CoordCrashes, ShardActs, ShardWakes, ShardHalts, ShardCrashes, move_of, Delivers, ClientWhy, CoordWhy, ShardWhy, coord_actor, shard_actor}
 use Rattle.rc_causes.proofs.Times.{sent_in, SentIn}
 use Rattle.rc_causes.proofs.ClientSays.{client_row_of}

@@ -1,8 +1,8 @@
 -- What a shard server says, by its rows: its no to a prepare has the reason that its test gave.
-use Rattle.std.proofs.Common.{◌≡◌, ℕ, List, [], ◌∷◌, refl, sym, ap, ◌∙◌, subst, Bool, true, false, Option, Some, None, length}
-use Rattle.std.specs.Prelude.{map, filter, is_some, ◌+◌, ◌==◌}
+use Rattle.std.proofs.Common.{◌≡◌, ℕ, List, [], ◌∷◌, refl, subst, Option, Some, None, length}
+use Rattle.std.specs.Prelude.{filter, is_some, ◌+◌, ◌==◌}
 use Rattle.std.specs.Ordering.{nat_cmp}
-use Rattle.rc_ids.specs.Tables.{In, found}
+use Rattle.rc_ids.specs.Tables.{found}
 use Rattle.rc_ids.specs.Cluster.{Layout, is_dc}
 use Rattle.rc_ids.specs.declared.names.Party.{Party}
 use Rattle.rc_body.specs.declared.decision.Decision.{Decision}
@@ -10,7 +10,7 @@ use Rattle.rc_body.specs.declared.entry.Entry.{Entry}
 use Rattle.rc_body.specs.declared.reason.Reason.{Reason}
 use Rattle.rc_body.specs.declared.reason.Reason.TheVariants.{Locked, Lost, Stale, Promised}
 use Rattle.rc_msg.specs.declared.msg.Msg.{Msg}
-use Rattle.rc_msg.specs.declared.msg.Msg.TheVariants.{ReadAsk, ReadCancel, Granted, Prepare, Prepared, Finish, CatchAsk, CatchPage}
+use Rattle.rc_msg.specs.declared.msg.Msg.TheVariants.{ReadAsk, ReadCancel, Prepare, Prepared, Finish, CatchAsk, CatchPage}
 use Rattle.rc_protocol.specs.Messages.{Posts, coordinator, or_else, most_entries}
 use Rattle.rc_protocol.specs.Shard.{ShardDurable, ShardVolatile, ShardAct, holder, reader, locked, lost_by, stale, first_reason, test, forgotten_all, settled_all, grant_of, is_free, grants, ignores_ask, on_prepare, unfinished, is_next_shard_page, with_shard_cursor, asks_next_shard_page, takes_page, shard_row}
 use Rattle.rc_protocol.specs.Acts.{NodeCause, Came, Catches, Takes, shard_act}

@@ -1,14 +1,13 @@
 -- Why nodes stop.
-use Rattle.std.proofs.Common.{◌≡◌, List, [], ◌∷◌, ◌++◌, refl, sym, ap, ◌∙◌, subst, Bool, true, false, cond, Option, Some, None, ◌⊎◌, inl, inr, ⊎_elim}
+use Rattle.std.proofs.Common.{◌≡◌, [], ◌∷◌, refl, sym, ap, ◌∙◌, subst, Bool, true, false, cond, Option, Some, None, ◌⊎◌, inl, inr, ⊎_elim}
 use Rattle.rc_ids.specs.Tables.{In, maybe}
 use Rattle.rc_ids.specs.declared.names.NodeId.{NodeId}
 use Rattle.rc_ids.specs.declared.names.NodeId.TheVariants.{Coord, Shard as ShardServer}
 use Rattle.rc_record.specs.declared.record.Record.{Record}
-use Rattle.rc_report.specs.declared.line.Line.{Line}
 use Rattle.rc_report.specs.declared.line.Line.TheVariants.{Stopped, Up}
 use Rattle.rc_runs.specs.declared.event.Event.{Event}
 use Rattle.rc_runs.specs.declared.event.Event.TheVariants.{Crash, Restart}
-use Rattle.rc_runs.specs.World.{World, Deed, deed, restart_lines, lines_of, course_deed, printed}
+use Rattle.rc_runs.specs.World.{World, Deed, restart_lines, lines_of, course_deed, printed}
 use Rattle.rc_runs.specs.Refusals.{Happening, is_event}
 use Rattle.rc_agreement.proofs.Tables.{in_either}
 use Rattle.rc_causes.specs.Stops.{made_in, stopped_in, AppendStopped, StopsHaveCauses}

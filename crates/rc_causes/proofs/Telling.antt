@@ -1,5 +1,5 @@
 -- Each outcome that is printed is chosen.
-use Rattle.std.proofs.Common.{◌≡◌, ℕ, List, [], ◌∷◌, ◌++◌, refl, sym, ap, ◌∙◌, subst, Bool, true, false, cond, Option, Some, None, ◌⊎◌, inl, inr, ⊎_elim}
+use Rattle.std.proofs.Common.{◌≡◌, ℕ, List, [], ◌∷◌, refl, sym, subst, Bool, true, false, cond, Some, ⊎_elim}
 use Rattle.std.specs.Ordering.{nat_cmp}
 use Rattle.rc_ids.specs.Tables.{In, found}
 use Rattle.rc_ids.specs.Cluster.{Layout, IsLayout}
@@ -8,16 +8,15 @@ use Rattle.rc_ids.specs.declared.names.NodeId.TheVariants.{Coord, Shard as Shard
 use Rattle.rc_ids.specs.declared.names.Outcome.{Outcome}
 use Rattle.rc_body.specs.Decisions.{outcome_of}
 use Rattle.rc_body.specs.declared.decision.Decision.{Decision}
-use Rattle.rc_msg.specs.declared.msg.Envelope.{Envelope}
 use Rattle.rc_report.specs.declared.line.Line.TheVariants.{Learned, Stopped, Up}
 use Rattle.rc_runs.specs.declared.event.Event.{Event}
 use Rattle.rc_runs.specs.declared.event.Event.TheVariants.{Restart}
 use Rattle.rc_protocol.specs.Client.{Client, ClientAct}
 use Rattle.rc_protocol.specs.Acts.{client_act}
 use Rattle.rc_runs.specs.World.{World, Parties, Deed, ByClient, replaced, after_begin, parties_after, restart_lines, lines_of, course_deed, step, printed}
-use Rattle.rc_runs.specs.Refusals.{Happening, is_event, after_event, run, lines_at, lines}
+use Rattle.rc_runs.specs.Refusals.{Happening, is_event, after_event, lines_at, lines}
 use Rattle.rc_claims.specs.Outcomes.{Chosen}
-use Rattle.rc_claims.specs.Lives.{IsLife}
+use Rattle.rc_agreement.proofs.PlainLives.{IsPlainLife}
 use Rattle.rc_agreement.proofs.Tables.{in_either, set_cases}
 use Rattle.rc_agreement.proofs.Scenes.{Scene, scene, event_keeps}
 use Rattle.rc_agreement.proofs.Agreeing.{laws_at}
@@ -105,5 +104,5 @@ module _ (c : Layout) (lay : IsLayout c) where
       (λ (later : In (Learned t outcome) (lines v hs)). all_chosen v hs g2 t outcome later)
       (in_either (Learned t outcome) (lines_at w h) (lines v hs) i)
 
-  pub printed_is_chosen : (earlier : List World) (w : World) → IsLife c earlier w → (later : List Happening) → PrintedIsChosen w later
+  pub printed_is_chosen : (earlier : List World) (w : World) → IsPlainLife c earlier w → (later : List Happening) → PrintedIsChosen w later
   printed_is_chosen earlier w life later = all_chosen w later (life_holds c lay earlier w life)

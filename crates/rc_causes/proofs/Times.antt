@@ -1,12 +1,11 @@
 -- Moments of a run: where its messages were sent and its lines printed.
-use Rattle.std.proofs.Common.{◌≡◌, ℕ, List, [], ◌∷◌, ◌++◌, refl, sym, ap, ◌∙◌, subst, Bool, true, false, cond, ◌⊎◌, inl, inr, ⊎_elim}
+use Rattle.std.proofs.Common.{◌≡◌, List, [], ◌∷◌, refl, ap, Bool, true, false, cond, ◌⊎◌, inl, inr, ⊎_elim}
 use Rattle.rc_ids.specs.Tables.{In}
 use Rattle.rc_msg.specs.declared.msg.Envelope.{Envelope}
 use Rattle.rc_report.specs.declared.line.Line.{Line}
-use Rattle.rc_runs.specs.World.{World, actor, envelopes, sends_of, course_deed, step, printed}
+use Rattle.rc_runs.specs.World.{World, actor, envelopes, sends_of, course_deed, step}
 use Rattle.rc_runs.specs.Refusals.{Happening, is_event, after_event, run, lines_at, lines}
 use Rattle.rc_causes.specs.Moments.{Moment, world_at, SendsNow, PrintsNow}
-use Rattle.rc_agreement.proofs.Cases.{on_cond}
 use Rattle.rc_agreement.proofs.Tables.{in_either}
 
 -- the first moment, and a moment behind one more happening

@@ -4,19 +4,21 @@ use Rattle.rc_ids.specs.Tables.{In}
 use Rattle.rc_ids.specs.Cluster.{Layout, is_quorum}
 use Rattle.rc_ids.specs.declared.names.Outcome.TheVariants.{Abort as Aborted}
 use Rattle.rc_body.specs.declared.reason.Reason.{Reason}
+use Rattle.rc_record.specs.declared.record.Record.{Record}
 use Rattle.rc_report.specs.declared.line.Line.{Line}
 use Rattle.rc_report.specs.declared.line.Line.TheVariants.{Refused as RefusedLine, Learned}
 use Rattle.rc_runs.specs.declared.event.Event.TheVariants.{Take}
 use Rattle.rc_runs.specs.World.{World, Start, new_world}
 use Rattle.rc_runs.specs.Refusals.{Happening, is_event, run, lines}
 use Rattle.rc_claims.specs.Outcomes.{Chosen}
-use Rattle.rc_claims.specs.Lives.{IsLife, IsStartOf, reopened}
+use Rattle.rc_claims.specs.Lives.{IsLife, IsStartOf, SayWhat, reopened_from}
 use Rattle.rc_causes.specs.Moments.{Moment, world_at, PrintsNow}
 
--- a world as a life begins: a new one, or the nodes of a life before, started again from their logs
+-- a world as a life begins: a new one, or nodes that start from logs that say what those say that the life before left
 pub data Begins (c : Layout) : World → Type 0 where
   New : Begins c (new_world c)
-  Again : (earlier : List World) (v : World) (start : Start) → IsLife c earlier v → IsStartOf v start → Begins c (reopened v start)
+  Again : (earlier : List World) (v : World) (start : Start) (coords shards : List (List Record)) → IsLife c earlier v → IsStartOf v start → SayWhat v coords shards
+      → Begins c (reopened_from c start coords shards)
 
 -- the command to take t over was an event
 pub record WasTaken (w : World) (hs : List Happening) (t : ℕ) : Type 0 where

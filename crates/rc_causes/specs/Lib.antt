@@ -5,3 +5,5 @@ pub mod Stops
 pub mod Refused
 pub mod Aborts
 pub mod Calls
+pub mod Faults
+pub mod Unread

@@ -6,7 +6,7 @@ use Rattle.rc_body.specs.declared.entry.Entry.{Entry}
 use Rattle.rc_runs.specs.World.{World}
 use Rattle.rc_serial.specs.OneMap.{base}
 use Rattle.rc_claims.specs.Outcomes.{all_committed}
-use Rattle.rc_claims.specs.Lives.{IsLife, First, Next}
+use Rattle.rc_agreement.proofs.PlainLives.{IsPlainLife, First, Next}
 use Rattle.rc_agreement.proofs.Tables.{in_left, in_right, in_either}
 use Rattle.rc_agreement.proofs.Lives.{chosen_life}
 use Rattle.rc_serial_order.specs.Earlier.{StaysChosen, HoldsWrites, HasOnlyWrites}
@@ -22,7 +22,7 @@ past_in (v ∷ earlier) t body i =
     (in_either (t, body) (past_of earlier) v.parties.committed i)
 
 -- what a life had committed, or logs before it, comes in the orders end to end
-past_has : (c : Layout) → IsLayout c → (earlier : List World) (w : World) → IsLife c earlier w → (v : World) → In v earlier → (t : ℕ) (body : List Entry) → In (t, body) (all_committed v) → In (t, body) (past_of earlier)
+past_has : (c : Layout) → IsLayout c → (earlier : List World) (w : World) → IsPlainLife c earlier w → (v : World) → In v earlier → (t : ℕ) (body : List Entry) → In (t, body) (all_committed v) → In (t, body) (past_of earlier)
 past_has c lay _ _ (First hs) v i t body j = absurd i
 past_has c lay _ _ (Next earlier u start hs before is_start) v i t body j =
     ⊎_elim
@@ -33,7 +33,7 @@ past_has c lay _ _ (Next earlier u start hs before is_start) v i t body j =
     (λ (k : In v earlier). in_left (t, body) (past_of earlier) u.parties.committed (past_has c lay earlier u before v k t body j))
     i
 
-module _ (c : Layout) (lay : IsLayout c) (earlier : List World) (w : World) (life : IsLife c earlier w) where
+module _ (c : Layout) (lay : IsLayout c) (earlier : List World) (w : World) (life : IsPlainLife c earlier w) where
   pub stays_chosen : StaysChosen earlier w
   stays_chosen v i outcome t h = chosen_life c lay earlier w life v i outcome t h
 

@@ -9,7 +9,8 @@ use Rattle.rc_record.specs.ShardState.{version_at, value_at}
 use Rattle.rc_serial.specs.OneMap.{Map, entry_applied, body_applied, Explains}
 use Rattle.rc_agreement.proofs.Cases.{on_maybe}
 use Rattle.rc_agreement.proofs.Lists.{map_in}
-use Rattle.rc_serial_order.proofs.KeyFacts.{key_dec, key_same, key_put_same, key_put_other}
+use Rattle.rc_agreement.proofs.ClientSlots.{key_dec, key_same}
+use Rattle.rc_serial_order.proofs.KeyFacts.{key_put_same, key_put_other}
 use Rattle.rc_serial_order.proofs.Steps.{Steps}
 use Rattle.rc_serial_order.proofs.Bodies.{bodies, writes_find, writes_by}
 

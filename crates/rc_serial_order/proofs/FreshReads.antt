@@ -12,7 +12,7 @@ use Rattle.rc_protocol.specs.Client.{Client}
 use Rattle.rc_runs.specs.World.{World, Start}
 use Rattle.rc_runs.specs.Refusals.{Happening, run}
 use Rattle.rc_claims.specs.Outcomes.{IsFresh}
-use Rattle.rc_claims.specs.Lives.{IsLife}
+use Rattle.rc_agreement.proofs.PlainLives.{IsPlainLife}
 use Rattle.rc_agreement.proofs.Tables.{in_either}
 use Rattle.rc_agreement.proofs.Scenes.{Scene, scene, Keeps, run_keeps}
 use Rattle.rc_agreement.proofs.Said.{Said}
@@ -45,7 +45,7 @@ start_kept start =
       clients = λ s u x k is due p. p;
     }
 
-module _ (c : Layout) (lay : IsLayout c) (earlier : List World) (w : World) (life : IsLife c earlier w) where
+module _ (c : Layout) (lay : IsLayout c) (earlier : List World) (w : World) (life : IsPlainLife c earlier w) where
   abbrev History_of : Type 0
   History_of = Haunted (Gone earlier) (History c (past_of earlier)) (scene w)
 

@@ -18,7 +18,8 @@ use Rattle.rc_protocol.specs.Client.{Client}
 use Rattle.rc_protocol.specs.Nodes.{CoordNode, ShardNode}
 use Rattle.rc_runs.specs.World.{World, Start, coord_at, new_world}
 use Rattle.rc_claims.specs.Outcomes.{is_named}
-use Rattle.rc_claims.specs.Lives.{IsLife, First, Next, IsStartOf, reopened}
+use Rattle.rc_claims.specs.Lives.{IsStartOf}
+use Rattle.rc_agreement.proofs.PlainLives.{IsPlainLife, First, Next, reopened}
 use Rattle.rc_agreement.proofs.Cases.{never}
 use Rattle.rc_agreement.proofs.Places.{logged_there}
 use Rattle.rc_agreement.proofs.Scenes.{Scene, scene, at, shard_in, Keeps, run_keeps}
@@ -204,7 +205,7 @@ module _ (c : Layout) (lay : IsLayout c) (earlier : List World) (v : World) (sta
       }
 
 -- EVERY LIFE
-pub life_history : (c : Layout) → IsLayout c → (earlier : List World) (w : World) → IsLife c earlier w → Haunted (Gone earlier) (History c (past_of earlier)) (scene w)
+pub life_history : (c : Layout) → IsLayout c → (earlier : List World) (w : World) → IsPlainLife c earlier w → Haunted (Gone earlier) (History c (past_of earlier)) (scene w)
 life_history c lay _ _ (First hs) =
     let s : Scene = scene (new_world c) in
     run_keeps (Haunted (Gone []) (History c [])) (haunted_kept (Gone []) (History c []) (history_kept c lay [])) (new_world c) hs

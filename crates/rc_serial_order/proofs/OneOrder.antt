@@ -11,7 +11,7 @@ use Rattle.rc_serial.specs.OneMap.{Map, Explains, base, body_applied, wrong_entr
 use Rattle.rc_record.specs.ShardState.{version_at}
 use Rattle.rc_runs.specs.World.{World}
 use Rattle.rc_claims.specs.Outcomes.{ServedEver, IsSerial}
-use Rattle.rc_claims.specs.Lives.{IsLife}
+use Rattle.rc_agreement.proofs.PlainLives.{IsPlainLife}
 use Rattle.rc_agreement.proofs.Cases.{some_is}
 use Rattle.rc_agreement.proofs.Tables.{in_map, in_left, in_right}
 use Rattle.rc_agreement.proofs.Scenes.{Scene, scene}
@@ -88,11 +88,11 @@ module _ (c : Layout) (lay : IsLayout c) (past : List (ℕ × List Entry)) (s : 
       (base_above past s.parties.start.committed h.into h.from)
 
 -- fewer reads are explained too
-fewer : (m : Map) (o : List (ℕ × List Entry)) (R S : Reads) → ((t : ℕ) (k : List ℕ) (v : ℕ) (y : Option (List ℕ)) → S t k v y → R t k v y) → Explains m o R → Explains m o S
+pub fewer : (m : Map) (o : List (ℕ × List Entry)) (R S : Reads) → ((t : ℕ) (k : List ℕ) (v : ℕ) (y : Option (List ℕ)) → S t k v y → R t k v y) → Explains m o R → Explains m o S
 fewer m [] R S h e = tt
 fewer m (x ∷ o) R S h e = (e.0, (λ k v y r. e.1 k v y (h x.0 k v y r)), fewer (body_applied m x.1) o R S h e.2)
 
-module _ (c : Layout) (lay : IsLayout c) (earlier : List World) (w : World) (life : IsLife c earlier w) where
+module _ (c : Layout) (lay : IsLayout c) (earlier : List World) (w : World) (life : IsPlainLife c earlier w) where
   -- a read served in this life or an earlier one stands at a client that is there, or among the ghosts
   served : (h : Haunted (Gone earlier) (History c (past_of earlier)) (scene w)) (t : ℕ) (k : List ℕ) (v : ℕ) (y : Option (List ℕ)) → ServedEver earlier w t k v y → ReadIn (with_ghosts (scene w) h.ghost.clients h.ghost.sent) t k v y
   served h t k v y (inl r) = record { client = r.client; is = h.ghost.known t r.client r.is; slot = r.slot; among = r.among; key = r.key; read = r.read }
@@ -115,5 +115,5 @@ none_wrong : (m : Map) (place : ℕ) (o : List (ℕ × List Entry)) (R : Reads) 
 none_wrong m place [] R h = refl
 none_wrong m place (x ∷ o) R h = let none = wrong_none m place x.1 h.0 in rw none (none_wrong (body_applied m x.1) (suc place) o R h.2)
 
-pub no_read_is_wrong : (c : Layout) → IsLayout c → (earlier : List World) (w : World) → IsLife c earlier w → first_wrong (base w.parties.start.committed) 0 w.parties.committed ≡ None
+pub no_read_is_wrong : (c : Layout) → IsLayout c → (earlier : List World) (w : World) → IsPlainLife c earlier w → first_wrong (base w.parties.start.committed) 0 w.parties.committed ≡ None
 no_read_is_wrong c lay earlier w life = none_wrong (base w.parties.start.committed) 0 w.parties.committed (ServedEver earlier w) (one_map_explains c lay earlier w life)

@@ -7,7 +7,8 @@ use Rattle.rc_ids.specs.Texts.{key_cmp}
 use Rattle.rc_body.specs.declared.entry.Entry.{Entry}
 use Rattle.rc_record.specs.ShardState.{version_at, set_row, set_rows}
 use Rattle.rc_agreement.proofs.Cases.{on_cond, on_maybe, some_is}
-use Rattle.rc_serial_order.proofs.KeyFacts.{key_dec, key_put_same, key_put_other, put_version}
+use Rattle.rc_agreement.proofs.ClientSlots.{key_dec}
+use Rattle.rc_serial_order.proofs.KeyFacts.{key_put_same, key_put_other, put_version}
 
 -- VERSIONS only rise, and are as high as those of the writes
 pub set_row_up : (rows : Table (List ℕ) (ℕ × List ℕ)) (e : Entry) (q : List ℕ) → version_at rows q ≤ version_at (set_row rows e) q

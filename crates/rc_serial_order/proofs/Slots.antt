@@ -14,7 +14,7 @@ use Rattle.rc_protocol.specs.Client.{Client, ClientAct, Slot, KeyRead, NotRead, 
 use Rattle.rc_agreement.proofs.Cases.{on_cond, on_maybe, some_is, never}
 use Rattle.rc_agreement.proofs.Tables.{in_either, in_map}
 use Rattle.rc_protocol.specs.Acts.{ClientCause, Hears, Reads, Writes, Commits, Cancels, Retries, Vanishes, client_by_row}
-use Rattle.rc_serial_order.proofs.KeyFacts.{key_same, key_is}
+use Rattle.rc_agreement.proofs.ClientSlots.{key_same, key_is, slot_in, slot_out, in_set, Keyed, dropped_one, in_dropped, begun_key}
 
 -- what a key's slot was granted is within G, and a complete read within W
 pub record SlotIs (G : List ℕ → Grant → Type 0) (W : List ℕ → ℕ → Option (List ℕ) → Type 0) (k : List ℕ) (r : KeyRead) : Type 0 where
@@ -30,28 +30,6 @@ pub record Sound (G : List ℕ → Grant → Type 0) (W : List ℕ → ℕ → O
   pub each : (x : Slot) → In x xs → SlotIs G W x.key x.read
   pub differ : Differ xs
 
--- SEARCH
-pub slot_in : (k : List ℕ) (xs : List Slot) (x : Slot) → slot_of xs k ≡ Some x → In x xs × (x.key ≡ k)
-slot_in k [] x e = never x e
-slot_in k (y ∷ ys) x e =
-    on_cond (λ (z : Option Slot). z ≡ Some x → In x (y ∷ ys) × (x.key ≡ k)) (same_key y.key k) (Some y) (slot_of ys k)
-    (λ t f. let z : y ≡ x = some_is y x f in (inl z, ap (λ (q : Slot). q.key) (sym z) ∙ key_is y.key k t))
-    (λ _ f. let z = slot_in k ys x f in (inr z.0, z.1)) e
-
-slot_out : (k : List ℕ) (xs : List Slot) → slot_of xs k ≡ None → (x : Slot) → In x xs → x.key ≡ k → ⊥
-slot_out k [] e x i q = i
-slot_out k (y ∷ ys) e x i q =
-    on_cond (λ (z : Option Slot). z ≡ None → ⊥) (same_key y.key k) (Some y) (slot_of ys k)
-    (λ _ f. cc)
-    (λ n f. ⊎_elim (λ (s : y ≡ x). true≢false (sym (key_same y.key k (ap (λ (z : Slot). z.key) s ∙ q)) ∙ n)) (λ j. slot_out k ys f x j q) i) e
-
-in_set : (s : Slot) (xs : List Slot) (x : Slot) → In x (slot_set xs s) → (s ≡ x) ⊎ In x xs
-in_set s [] x i = absurd i
-in_set s (y ∷ ys) x i =
-    on_cond (λ (z : List Slot). In x z → (s ≡ x) ⊎ In x (y ∷ ys)) (same_key y.key s.key) (s ∷ ys) (y ∷ slot_set ys s)
-    (λ _ j. ⊎_elim inl (λ z. inr (inr z)) j)
-    (λ _ j. ⊎_elim (λ z. inr (inl z)) (λ z. ⊎_elim inl (λ w. inr (inr w)) (in_set s ys x z)) j) i
-
 differ_set : (s : Slot) (xs : List Slot) → Differ xs → Differ (slot_set xs s)
 differ_set s [] h = tt
 differ_set s (x ∷ xs) h =
@@ -65,29 +43,6 @@ differ_end s (x ∷ xs) h n = (
   (λ y i e. ⊎_elim (λ j. h.0 y j e) (λ (j : (s ≡ y) ⊎ ⊥). ⊎_elim (λ z. n x (inl refl) (e ∙ ap (λ (q : Slot). q.key) (sym z))) (λ z. z) j) (in_either y xs (s ∷ []) i)),
   differ_end s xs h.1 (λ y i. n y (inr i)),
 )
-
--- a slot of xs has this key
-abbrev Keyed : List Slot → List ℕ → Type 0
-Keyed xs k = (z : Slot) × In z xs × (z.key ≡ k)
-
--- what is left of one slot
-dropped_one : (k : List ℕ) (y x : Slot) → In x (read_dropped k y) → (y ≡ x) ⊎ ((x.read ≡ NotRead) × (y.key ≡ x.key))
-dropped_one k y x i =
-    on_cond P (same_key y.key k) (maybe y.write [] (λ value. with_read y NotRead ∷ [])) (y ∷ [])
-    (λ _. on_maybe P y.write [] (λ value. with_read y NotRead ∷ []) (λ _ j. absurd j)
-    (λ v _ j. ⊎_elim (λ (z : with_read y NotRead ≡ x). inr (ap (λ (q : Slot). q.read) (sym z), ap (λ (q : Slot). q.key) z)) (λ n. absurd n) j))
-    (λ _ j. ⊎_elim inl (λ n. absurd n) j) i
-  where
-    P : List Slot → Type 0
-    P z = In x z → (y ≡ x) ⊎ ((x.read ≡ NotRead) × (y.key ≡ x.key))
-
-in_dropped : (k : List ℕ) (xs : List Slot) (x : Slot) → In x (flat_map (read_dropped k) xs) → In x xs ⊎ ((x.read ≡ NotRead) × Keyed xs x.key)
-in_dropped k [] x i = absurd i
-in_dropped k (y ∷ ys) x i =
-    ⊎_elim
-    (λ (j : In x (read_dropped k y)). ⊎_elim (λ e. inl (inl e)) (λ (z : (x.read ≡ NotRead) × (y.key ≡ x.key)). inr (z.0, (y, inl refl, z.1))) (dropped_one k y x j))
-    (λ (j : In x (flat_map (read_dropped k) ys)). ⊎_elim (λ w. inl (inr w)) (λ (w : (x.read ≡ NotRead) × Keyed ys x.key). inr (w.0, (w.1.0, inr w.1.1, w.1.2))) (in_dropped k ys x j))
-    (in_either x (read_dropped k y) (flat_map (read_dropped k) ys) i)
 
 differ_both : (xs ys : List Slot) → Differ xs → Differ ys → ((x y : Slot) → In x xs → In y ys → x.key ≡ y.key → ⊥) → Differ (xs ++ ys)
 differ_both [] ys h k n = k
@@ -107,9 +62,6 @@ differ_dropped k [] h = tt
 differ_dropped k (y ∷ ys) h =
     differ_both (read_dropped k y) (flat_map (read_dropped k) ys) (differ_one k y) (differ_dropped k ys h.1)
     (λ a b i j e. ⊎_elim (λ w. h.0 b w (key_of_dropped k y a i ∙ e)) (λ (w : (b.read ≡ NotRead) × Keyed ys b.key). h.0 w.1.0 w.1.1 (key_of_dropped k y a i ∙ e ∙ sym w.1.2)) (in_dropped k ys b j))
-
-begun_key : (x : Slot) → (read_begun x).key ≡ x.key
-begun_key x = on_cond (λ (z : Slot). z.key ≡ x.key) (is_unread x.read) (with_read x (UnderWay false [])) x (λ _. refl) (λ _. refl)
 
 differ_begun : (xs : List Slot) → Differ xs → Differ (map read_begun xs)
 differ_begun [] h = tt

@@ -14,32 +14,10 @@ use Rattle.rc_runs.specs.World.{World}
 use Rattle.rc_claims.specs.Outcomes.{is_named}
 use Rattle.rc_runs.specs.Starts.{named_by_coords, named_by_shards, start_of}
 use Rattle.rc_agreement.proofs.Tables.{in_added, added_has}
+use Rattle.rc_agreement.proofs.AlikeLogs.{more_log}
 use Rattle.rc_agreement.proofs.Named.{log_keeps}
 use Rattle.rc_agreement.proofs.Reopened.{open_node, open_server}
 use Rattle.rc_starts.proofs.Lists.{map_in, some_in, or_case}
-
--- what joins some names joins more names too
-abbrev More : List ℕ → List ℕ → Type 0
-More a b = (u : ℕ) → In u a → In u b
-
-more_added : (a b : List ℕ) (k : ℕ) → More a b → More (added nat_cmp a k) (added nat_cmp b k)
-more_added a b k m u i = added_has u k b (⊎_elim inl (λ j. inr (m u j)) (in_added u k a i))
-
-more_txs : (es : List (ℕ × Decision)) (a b : List ℕ) → More a b → More (with_txs a es) (with_txs b es)
-more_txs [] a b m = m
-more_txs (e ∷ es) a b m = more_txs es (added nat_cmp a e.0) (added nat_cmp b e.0) (more_added a b e.0 m)
-
-more_named : (r : Record) (a b : List ℕ) → More a b → More (with_named a r) (with_named b r)
-more_named (Prepared t p) a b m = more_added a b t m
-more_named (Finished es) a b m = more_txs es a b m
-more_named (Promised t n) a b m = more_added a b t m
-more_named (Accepted t n o) a b m = more_added a b t m
-more_named (Decided es) a b m = more_txs es a b m
-more_named (Head h) a b m = m
-
-more_log : (rs : List Record) (a b : List ℕ) → More a b → More (with_log a rs) (with_log b rs)
-more_log [] a b m = m
-more_log (r ∷ rs) a b m = more_log rs (with_named a r) (with_named b r) (more_named r a b m)
 
 -- what was named before stays named
 coords_keep : (t : ℕ) (xs : List CoordNode) (named : List ℕ) → In t named → In t (named_by_coords named xs)

@@ -5,7 +5,7 @@ use Rattle.std.proofs.lemmas.List.{length-replicate, length-map}
 use Rattle.rc_ids.specs.Cluster.{Layout}
 use Rattle.rc_protocol.specs.Nodes.{CoordNode, coord_index, coord_started, coord_after, coord_stopped}
 use Rattle.rc_runs.specs.World.{World, new_world}
-use Rattle.rc_claims.specs.Lives.{IsLife, First, Next, reopened}
+use Rattle.rc_agreement.proofs.PlainLives.{IsPlainLife, First, Next, reopened}
 use Rattle.rc_agreement.proofs.Cases.{never}
 use Rattle.rc_agreement.proofs.Scenes.{Scene, scene, at, act_of, Keeps, run_keeps}
 
@@ -36,7 +36,7 @@ sized_kept c =
       clients = λ s u x k is due p. record { layout = p.layout; many = p.many };
     }
 
-pub life_sized : (c : Layout) (earlier : List World) (w : World) → IsLife c earlier w → Sized c (scene w)
+pub life_sized : (c : Layout) (earlier : List World) (w : World) → IsPlainLife c earlier w → Sized c (scene w)
 life_sized c _ _ (First hs) = run_keeps (Sized c) (sized_kept c) (new_world c) hs (record { layout = refl; many = length-replicate c.dcs (coord_started []) })
 life_sized c _ _ (Next earlier v start hs before is_start) =
     let p = life_sized c earlier v before in

@@ -1,4 +1,4 @@
--- What is taken from the logs of a life is a start of it.
+-- What is taken from the logs of a world whose votes carry one body is a start of it.
 use Rattle.std.proofs.Common.{◌≡◌, ℕ, suc, ◌<◌, ◌-◌, List, [], sym, ap, ◌∙◌, subst, true, Some, arith, ⊎_elim, length}
 use Rattle.std.specs.Prelude.{map, slice_get}
 use Rattle.rc_ids.specs.Tables.{In}
@@ -14,8 +14,8 @@ use Rattle.rc_record.specs.declared.record.Record.TheVariants.{Accepted}
 use Rattle.rc_protocol.specs.Nodes.{CoordNode, coord_index}
 use Rattle.rc_runs.specs.Votes.{is_chosen_at, is_listed}
 use Rattle.rc_runs.specs.World.{World, Start, coord_at}
-use Rattle.rc_claims.specs.Outcomes.{Chosen, IsCommitted}
-use Rattle.rc_claims.specs.Lives.{IsLife, IsStartOf}
+use Rattle.rc_claims.specs.Outcomes.{Chosen, IsCommitted, VotesOneBody}
+use Rattle.rc_claims.specs.Lives.{IsStartOf}
 use Rattle.rc_runs.specs.Starts.{start_of}
 use Rattle.rc_agreement.proofs.Tables.{got_in, in_map}
 use Rattle.rc_agreement.proofs.Places.{coord_dc, logged_there}
@@ -23,24 +23,20 @@ use Rattle.rc_agreement.proofs.Scenes.{scene, at}
 use Rattle.rc_agreement.proofs.Ballots.{Vote}
 use Rattle.rc_agreement.proofs.Choices.{choice_of, dc_of}
 use Rattle.rc_agreement.proofs.Reopened.{open_node, open_server}
-use Rattle.rc_agreement.proofs.Laws.{votes_one_body}
 use Rattle.rc_starts.proofs.Lists.{map_in, in_got}
-use Rattle.rc_starts.proofs.Sizes.{got_below, Sized, life_sized}
+use Rattle.rc_starts.proofs.Sizes.{got_below, Sized}
 use Rattle.rc_starts.proofs.Naming.{named_again}
 use Rattle.rc_starts.proofs.Choosing.{chosen_same, logs_list, Voted, logs_from}
 
 differ : Aborted ≡ Committed → ⊥
 differ e = cc
 
-module _ (c : Layout) (lay : IsLayout c) (earlier : List World) (v : World) (life : IsLife c earlier v) where
+module _ (c : Layout) (lay : IsLayout c) (v : World) (size : Sized c (scene v)) (one_body : VotesOneBody v) where
   abbrev coords : List CoordNode
   coords = map open_node v.parties.coords
 
   abbrev start : Start
   start = start_of c coords (map open_server v.parties.shards)
-
-  size : Sized c (scene v)
-  size = life_sized c earlier v life
 
   -- what the logs choose is what v chose
   same : (t b : ℕ) → is_chosen_at c coords Committed t b ≡ is_chosen_at v.parties.layout v.parties.coords Committed t b
@@ -93,7 +89,7 @@ module _ (c : Layout) (lay : IsLayout c) (earlier : List World) (v : World) (lif
           record {
             ballot = w.ballot;
             chosen = sym (same t w.ballot) ∙ w.now;
-            votes = λ d x voted is k. votes_one_body c lay earlier v life d p.0 t w.ballot w.ballot x y.0 voted body is p.1 k vote;
+            votes = λ d x voted is k. one_body d p.0 t w.ballot w.ballot x y.0 voted body is p.1 k vote;
           }
 
   pub start_again : IsStartOf v start

@@ -18,7 +18,8 @@ use Rattle.rc_record.specs.ShardState.{ShardDurable}
 use Rattle.rc_protocol.specs.Nodes.{CoordNode, ShardNode, shard_started}
 use Rattle.rc_runs.specs.World.{World, Start, new_world}
 use Rattle.rc_claims.specs.Outcomes.{IsCommitted}
-use Rattle.rc_claims.specs.Lives.{IsLife, First, Next, IsStartOf, reopened}
+use Rattle.rc_claims.specs.Lives.{IsStartOf}
+use Rattle.rc_agreement.proofs.PlainLives.{IsPlainLife, First, Next, reopened}
 use Rattle.rc_agreement.proofs.Places.{logged_there}
 use Rattle.rc_agreement.proofs.Scenes.{Scene, scene, at, shard_in, Keeps, run_keeps}
 use Rattle.rc_agreement.proofs.Ballots.{Vote}
@@ -110,7 +111,7 @@ module _ (c : Layout) (v : World) (start : Start) (is_start : IsStartOf v start)
   pub kept_again : Ghost (Kept c) (scene (reopened v start))
   kept_again = record { clients = r.clients; sent = r.sent; holds = ((r.holds, cited_again), olds_again); all = r.all; known = r.known; back = r.back }
 
-pub life_kept : (c : Layout) → IsLayout c → (earlier : List World) (w : World) → IsLife c earlier w → Ghost (Kept c) (scene w)
+pub life_kept : (c : Layout) → IsLayout c → (earlier : List World) (w : World) → IsPlainLife c earlier w → Ghost (Kept c) (scene w)
 life_kept c lay _ _ (First hs) =
     run_keeps (Ghost (Kept c)) (ghosts_kept (Kept c) (kept_kept c lay)) (new_world c) hs
     (no_ghosts (Kept c) (scene (new_world c)) ((((new_agrees c, new_heard c), new_ordered c lay), new_cited c), record { each = λ t body i. absurd i }))

@@ -15,7 +15,7 @@ use Rattle.rc_protocol.specs.Nodes.{CoordNode, ShardNode}
 use Rattle.rc_protocol.specs.Shard.{concerns}
 use Rattle.rc_runs.specs.Votes.{is_listed}
 use Rattle.rc_runs.specs.World.{World}
-use Rattle.rc_claims.specs.Lives.{IsLife}
+use Rattle.rc_agreement.proofs.PlainLives.{IsPlainLife}
 use Rattle.rc_claims.specs.Whole.{HasOrGets, IsWhole, AppliedIsWhole, IsCaughtUp}
 use Rattle.rc_agreement.proofs.Tables.{in_left, in_right}
 use Rattle.rc_agreement.proofs.Places.{node_is, server_is, listed_there}
@@ -92,7 +92,7 @@ module _ (c : Layout) (lay : IsLayout c) (s : Scene) (p : Kept c s) where
       same : (x : List Entry) (d b : ℕ) → Vote t s d b (Commit x) → x ≡ body
       same x d b v = let m = proposed c lay s agree t (Commit body) l in one_body c t s (agree t) b m.0 x body (((agree t).coords d).voted b (Commit x) v) m.1
 
-module _ (c : Layout) (lay : IsLayout c) (earlier : List World) (w : World) (life : IsLife c earlier w) where
+module _ (c : Layout) (lay : IsLayout c) (earlier : List World) (w : World) (life : IsPlainLife c earlier w) where
   g : Ghost (Kept c) (scene w)
   g = life_kept c lay earlier w life
 

@@ -1,5 +1,5 @@
 use Rattle.rc_causes.proofs.Times.{printed_in}
-use Rattle.rc_causes.proofs.Telling.{printed_is_chosen}
+use Rattle.rc_causes.proofs.LifeCauses.{printed_is_chosen}
 use Rattle.rc_causes.proofs.printed_outcomes.Goals as goal
 
 pub returns-clause-moments : goal.returns-clause-moments

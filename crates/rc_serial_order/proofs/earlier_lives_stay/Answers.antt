@@ -1,4 +1,4 @@
-use Rattle.rc_serial_order.proofs.EarlierLives as laws
+use Rattle.rc_serial_order.proofs.LifeOrders as laws
 use Rattle.rc_serial_order.proofs.earlier_lives_stay.Goals as goal
 
 pub returns-clause-chosen : goal.returns-clause-chosen

@@ -1,0 +1,2 @@
+-- The records of a node's own kind.
+pub mod Kinds
