@@ -15,7 +15,7 @@ use Rattle.rc_runs.specs.Script.{LineDone, line_done, then_line, then_trace, unl
 use Rattle.rc_world.specs.Networks as networks
 use Rattle.rc_world.specs.declared.fault.SessionFault.{SessionFault}
 use Rattle.rc_world.specs.declared.fault.SessionFault.TheVariants.{NoMemory, Naming, Limit}
-use Rattle.rc_world.specs.Sessions.{Halts, Halted, Performed, Happened, Stay}
+use Rattle.rc_world.specs.Sessions.{Halts, Halted, Performed, EventHappened, Stay}
 use Rattle.rc_world.specs.Lines.{Did, Ended, Counts, Refuses}
 
 -- what went well, and what was refused
@@ -36,7 +36,7 @@ ended_went NoMemory z trace went lines now halts stays = tt
 ended_went (Limit which) z trace went lines now halts stays = halted_at z trace went (Limited which) lines now halts stays
 ended_went (Naming name) z trace went lines now halts stays = halted_at z trace went (Misnamed name) lines now halts stays
 
-pub did_happen : (z : Session) (e : Event) (after : Session) (own lines now : List Line) → Happened (happens z e) after own lines now → Did (by_event z e) after lines now
+pub did_happen : (z : Session) (e : Event) (after : Session) (own lines now : List Line) → EventHappened (happens z e) after own lines now → Did (by_event z e) after lines now
 did_happen z e after own lines now went = did_went z ((e, (disk_change z e).course) ∷ []) (happens z e) after own lines now went.went_so went.prints
 
 -- what a line did, but for its events

@@ -55,7 +55,7 @@ abbrev pub event_lines : Session → Event → List Line
 event_lines z e = printed_by z.world e (disk_change z e).course
 
 -- an event happened
-pub record Happened (went : Happened) (session : Session) (own lines printed : List Line) : Type 0 where
+pub record EventHappened (went : Happened) (session : Session) (own lines printed : List Line) : Type 0 where
   pub went_so : went ≡ Ok (session, own)
   pub prints : printed ≡ lines ++ own
 

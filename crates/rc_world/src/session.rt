@@ -10,7 +10,7 @@ ghost use Rattle.rc_world.specs.Lines.{Counts, Refuses, line_of};
 ghost use Rattle.rc_runs.specs.Session.{happens};
 ghost use Rattle.rc_runs.specs.Script.{performs};
 ghost use Rattle.rc_runs.specs.Stored.{in_memory, new_session};
-ghost use Rattle.rc_world.specs.Sessions.{Halts, Halted, Performed, Happened, Stay, event_lines};
+ghost use Rattle.rc_world.specs.Sessions.{Halts, Halted, Performed, EventHappened, Stay, event_lines};
 
 use crate::SessionFault;
 use crate::disk::counted;
@@ -69,7 +69,7 @@ impl Session {
         event: &Event,
         lines: &mut Lines,
     ) -> Result<(), SessionFault>
-        ensures done { OnOk result (Happened (happens self.old event.now) self.new (event_lines self.old event.now) lines.old lines.new) }
+        ensures done { OnOk result (EventHappened (happens self.old event.now) self.new (event_lines self.old event.now) lines.old lines.new) }
         ensures refused { IfErr result (λ e. Halts e (happens self.old event.now)) }
         ensures lines { IfErr result (λ e. Stay e lines.old lines.new) }
     {

@@ -9,7 +9,7 @@ ghost use Rattle.rc_runs.specs.Refusals.{wrong, wants_up};
 ghost use Rattle.rc_runs.specs.Session.{text_bytes, most_text_bytes, happens};
 ghost use Rattle.rc_world.specs.Networks.{passed, posted, too_much};
 ghost use Rattle.rc_world.specs.declared.fault.ActFault.TheVariants.{NoMemory as OutOfMemory};
-ghost use Rattle.rc_world.specs.Sessions.{session_of, actor_if_any, EventActed, ActRefused, Stepped, late_limit, Halts, Happened, Stay, event_lines, fault_of_limit, SendRefused, Overprints};
+ghost use Rattle.rc_world.specs.Sessions.{session_of, actor_if_any, EventActed, ActRefused, Stepped, late_limit, Halts, EventHappened, Stay, event_lines, fault_of_limit, SendRefused, Overprints};
 ghost use Rattle.rc_world.specs.Sessions as sessions;
 
 use crate::SessionFault;
@@ -329,7 +329,7 @@ fn happen_named(
 ) -> Result<(), LimitFault>
     requires { wrong (session_of parties.old network.old 0 0).world event.now ≡ None }
     ensures done { OnOk result (let z = session_of parties.old network.old events.old text.old in
-        Happened (happens z event.now) (session_of parties.new network.new events.new text.new) (event_lines z event.now) lines.old lines.new) }
+        EventHappened (happens z event.now) (session_of parties.new network.new events.new text.new) (event_lines z event.now) lines.old lines.new) }
     ensures refused { IfErr result (λ e. Halts (fault_of_limit e) (happens (session_of parties.old network.old events.old text.old) event.now)) }
     ensures lines { IfErr result (λ e. Stay (fault_of_limit e) lines.old lines.new) }
 {
@@ -356,7 +356,7 @@ pub(crate) fn happen_in(
     lines: &mut Lines,
 ) -> Result<(), SessionFault>
     ensures done { OnOk result (let z = session_of parties.old network.old events.old text.old in
-        Happened (happens z event.now) (session_of parties.new network.new events.new text.new) (event_lines z event.now) lines.old lines.new) }
+        EventHappened (happens z event.now) (session_of parties.new network.new events.new text.new) (event_lines z event.now) lines.old lines.new) }
     ensures refused { IfErr result (λ e. Halts e (happens (session_of parties.old network.old events.old text.old) event.now)) }
     ensures lines { IfErr result (λ e. Stay e lines.old lines.new) }
 {
