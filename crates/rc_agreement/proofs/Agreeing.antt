@@ -28,7 +28,8 @@ use Rattle.rc_protocol.specs.Acts.{NodeCause, ClientCause, Hears, Reads, Writes,
 use Rattle.rc_agreement.proofs.Scenes.{Scene, scene, at, shard_in, There, Due, act_of, shard_act_of, DueFor, stopped, started, joined_by, acted, Half, Nothing, Whole, Keeps}
 use Rattle.rc_agreement.proofs.Said.{Said, Says, said_more, said_new, Each, each_none, each_weaker, Plain, Modest, modest_plain}
 use Rattle.rc_agreement.proofs.Ballots.{Reported, Proposal, Answer, promise_at, Tops, Fine, Late, Sent, Agreeing, Good}
-use Rattle.rc_agreement.proofs.CoordRows.{good, act_fair}
+use Rattle.rc_agreement.proofs.FairRows.{good}
+use Rattle.rc_agreement.proofs.CoordRows.{act_fair}
 use Rattle.rc_agreement.proofs.ShardRows.{shard_modest}
 use Rattle.rc_agreement.proofs.ClientRows.{Tame, Ready, client_tame}
 use Rattle.rc_agreement.proofs.CoordKeeps.{keeps_act}

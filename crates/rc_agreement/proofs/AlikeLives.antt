@@ -22,7 +22,8 @@ use Rattle.rc_agreement.proofs.Cases.{some_is, never}
 use Rattle.rc_agreement.proofs.PlainLives.{IsPlainLife, First as PlainFirst, Next as PlainNext, reopened}
 use Rattle.rc_agreement.proofs.Lives.{life_holds}
 use Rattle.rc_agreement.proofs.AlikeLogs.{CoordLike, SameButLog, ShardLike, SameButItsLog, BothOrNone, Neither, Both, coord_starts, shard_starts, same_test, chosen_same}
-use Rattle.rc_agreement.proofs.Alike.{SameButNodes, WorldLike, SameButParties, coord_like, shard_like, run_like}
+use Rattle.rc_agreement.proofs.AlikeDeeds.{SameButNodes, coord_like, shard_like}
+use Rattle.rc_agreement.proofs.Alike.{WorldLike, SameButParties, run_like}
 
 -- WHAT IS THE SAME in two such worlds
 pub layout_same : (w y : World) → WorldLike w y → w.parties.layout ≡ y.parties.layout
@@ -62,6 +63,9 @@ shard_right _ _ (SameButParties w _ (SameButNodes _ cs ss hc hs)) d s z is = rig
 
 pub durable_same : (x z : CoordNode) → CoordLike x z → x.durable ≡ z.durable
 durable_same _ _ (SameButLog x log s) = refl
+
+pub shard_durable_same : (x z : ShardNode) → ShardLike x z → x.durable ≡ z.durable
+shard_durable_same _ _ (SameButItsLog x log s) = refl
 
 pub vote_right : (x z : CoordNode) → CoordLike x z → (t b : ℕ) (body : List Entry) → In (Accepted t b (Commit body)) x.log → In (Accepted t b (Commit body)) z.log
 vote_right _ _ (SameButLog x log s) t b body i = (s.votes t b (Commit body)).0 i

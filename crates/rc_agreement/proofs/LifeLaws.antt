@@ -12,26 +12,18 @@ use Rattle.rc_record.specs.declared.coord.CoordDurable.{CoordDurable}
 use Rattle.rc_report.specs.declared.line.Line.{Line}
 use Rattle.rc_report.specs.declared.line.Line.TheVariants.{Learned}
 use Rattle.rc_protocol.specs.Client.{Client}
-use Rattle.rc_protocol.specs.Nodes.{ShardNode}
 use Rattle.rc_runs.specs.Votes.{is_listed}
 use Rattle.rc_runs.specs.World.{World, Start}
 use Rattle.rc_runs.specs.Refusals.{Happening, run}
 use Rattle.rc_claims.specs.Outcomes.{IsPrefix, Agrees, VotesOneBody, ListedIsChosen, FinishedIsChosen, ClientsLearnChosen, ToldIsChosen, ChosenStays, OrderIsChosen, EachOnce, AreNew, ChosenIsOrdered, PrintedIsOrdered, ListsGrow}
 use Rattle.rc_claims.specs.Lives.{IsLife}
-use Rattle.rc_agreement.proofs.AlikeLogs.{ShardLike, SameButItsLog}
 use Rattle.rc_agreement.proofs.Alike.{WorldLike, run_like, lines_same}
-use Rattle.rc_agreement.proofs.AlikeLives.{PlainLife, plain_life, start_same, clients_same, committed_same, sent_same, coord_right, shard_right, durable_same, vote_left, chosen_left, chosen_right, committed_right}
+use Rattle.rc_agreement.proofs.AlikeLives.{PlainLife, plain_life, start_same, clients_same, committed_same, sent_same, coord_right, shard_right, durable_same, shard_durable_same, vote_left, chosen_left, chosen_right, committed_right}
 use Rattle.rc_agreement.proofs.Laws as plain
-
-pub finished_left : (x z : ShardNode) → ShardLike x z → x.durable ≡ z.durable
-finished_left _ _ (SameButItsLog x log s) = λ i. x.durable
 
 module _ (c : Layout) (lay : IsLayout c) (earlier : List World) (y : World) (life : IsLife c earlier y) where
   p : PlainLife c earlier y
   p = plain_life c lay earlier y life
-
-  abbrev W : PlainLife c earlier y → World
-  W q = q.world
 
   -- what the order and the logs before it have
   listed_same : (w z : World) → WorldLike w z → (t : ℕ) → (is_listed w.parties.start.committed t || is_listed w.parties.committed t) ≡ (is_listed z.parties.start.committed t || is_listed z.parties.committed t)
@@ -54,7 +46,7 @@ module _ (c : Layout) (lay : IsLayout c) (earlier : List World) (y : World) (lif
   pub finished_is_chosen : FinishedIsChosen y
   finished_is_chosen d sh t z outcome is f =
       let x = shard_right p.world y p.like d sh z is in
-      chosen_right p.world y p.like outcome t (plain.finished_is_chosen c lay p.before p.world p.plain d sh t x.0 outcome x.1 (ap (λ s. found nat_cmp s.finished t) (finished_left x.0 z x.2) ∙ f))
+      chosen_right p.world y p.like outcome t (plain.finished_is_chosen c lay p.before p.world p.plain d sh t x.0 outcome x.1 (ap (λ s. found nat_cmp s.finished t) (shard_durable_same x.0 z x.2) ∙ f))
 
   pub clients_learn_chosen : ClientsLearnChosen y
   clients_learn_chosen t x o is done e =

@@ -1,16 +1,15 @@
 -- The laws, of every life: each is that of the plain life that it is like.
-use Rattle.std.proofs.Common.{◌≡◌, ℕ, List, sym, ap, ◌∙◌, subst, inl, inr, ⊎_elim}
+use Rattle.std.proofs.Common.{ℕ, List, sym, ◌∙◌, subst, inl, inr, ⊎_elim}
 use Rattle.rc_ids.specs.Tables.{In}
 use Rattle.rc_ids.specs.Cluster.{Layout, IsLayout}
 use Rattle.rc_ids.specs.declared.names.Outcome.TheVariants.{Abort as Aborted}
-use Rattle.rc_body.specs.declared.reason.Reason.{Reason}
 use Rattle.rc_report.specs.declared.line.Line.{Line}
-use Rattle.rc_report.specs.declared.line.Line.TheVariants.{Refused as RefusedLine, Learned}
+use Rattle.rc_report.specs.declared.line.Line.TheVariants.{Learned}
 use Rattle.rc_runs.specs.World.{World, new_world}
-use Rattle.rc_runs.specs.Refusals.{Happening, run, lines_at, lines}
+use Rattle.rc_runs.specs.Refusals.{Happening, run, lines}
 use Rattle.rc_claims.specs.Lives.{IsLife}
 use Rattle.rc_agreement.proofs.Alike.{WorldLike, is_event_same, lines_at_same, run_like, lines_same}
-use Rattle.rc_agreement.proofs.AlikeLives.{PlainLife, plain_life, plain_layout, start_left, like_self, reopens_like, chosen_right}
+use Rattle.rc_agreement.proofs.AlikeLives.{PlainLife, plain_life, plain_layout, start_left, reopens_like, chosen_right}
 use Rattle.rc_causes.specs.Printed.{PrintedIsChosen}
 use Rattle.rc_causes.specs.Aborts.{Begins, New, Again, WasTaken, IsRefusedByMany, AbortsHaveCauses}
 use Rattle.rc_causes.proofs.Telling as telling

@@ -7,14 +7,12 @@ use Rattle.rc_ids.specs.declared.names.Outcome.{Outcome}
 use Rattle.rc_ids.specs.declared.names.Outcome.TheVariants.{Commit as Committed, Abort as Aborted}
 use Rattle.rc_body.specs.declared.decision.Decision.{Decision}
 use Rattle.rc_body.specs.declared.decision.Decision.TheVariants.{Commit, Abort}
-use Rattle.rc_body.specs.declared.entry.Entry.{Entry}
 use Rattle.rc_record.specs.CoordState.{CoordDurable, promise_of, outcome_of, outcomes_joined, coord_applied, new_durable as new_coord_durable}
 use Rattle.rc_record.specs.ShardState.{ShardDurable, settled, settled_new, settled_all, set_rows, shard_applied, new_durable as new_shard_durable}
 use Rattle.rc_record.specs.declared.record.Record.{Record}
 use Rattle.rc_record.specs.declared.record.Record.TheVariants.{Head, Prepared, Finished, Promised, Accepted, Decided}
 use Rattle.rc_protocol.specs.Nodes.{coord_replayed, shard_replayed, with_txs, with_named, with_log}
-use Rattle.rc_claims.specs.Lives.{SameMembers}
-use Rattle.rc_agreement.proofs.Cases.{nat_dec, never, some_is}
+use Rattle.rc_agreement.proofs.Cases.{nat_dec, never}
 use Rattle.rc_agreement.proofs.Tables.{in_added, added_has, put_cases, without_other, nat_tied, to_equal}
 use Rattle.rc_starts.specs.Kinds.{IsOfCoord, IsOfShard, AreAll, CoordNamesFollow, ShardNamesFollow}
 

@@ -1,23 +1,20 @@
 -- A transaction that a log names is named at the start.
-use Rattle.std.proofs.Common.{◌≡◌, ℕ, List, [], ◌∷◌, sym, ap, subst, true, inl, inr, ⊎_elim}
+use Rattle.std.proofs.Common.{◌≡◌, ℕ, List, [], ◌∷◌, sym, subst, true, ⊎_elim}
 use Rattle.std.specs.Prelude.{map}
 use Rattle.std.specs.Ordering.{nat_cmp}
 use Rattle.std.specs.List.{list_any}
-use Rattle.rc_ids.specs.Tables.{In, member, added}
+use Rattle.rc_ids.specs.Tables.{In, member}
 use Rattle.rc_ids.proofs.QuorumFacts.{member-in, in-member}
 use Rattle.rc_ids.specs.Cluster.{Layout}
-use Rattle.rc_body.specs.declared.decision.Decision.{Decision}
-use Rattle.rc_record.specs.declared.record.Record.{Record}
-use Rattle.rc_record.specs.declared.record.Record.TheVariants.{Head, Prepared, Finished, Promised, Accepted, Decided}
-use Rattle.rc_protocol.specs.Nodes.{CoordNode, ShardNode, with_txs, with_named, with_log}
+use Rattle.rc_protocol.specs.Nodes.{CoordNode, ShardNode, with_log}
 use Rattle.rc_runs.specs.World.{World}
 use Rattle.rc_claims.specs.Outcomes.{is_named}
 use Rattle.rc_runs.specs.Starts.{named_by_coords, named_by_shards, start_of}
-use Rattle.rc_agreement.proofs.Tables.{in_added, added_has}
 use Rattle.rc_agreement.proofs.AlikeLogs.{more_log}
 use Rattle.rc_agreement.proofs.Named.{log_keeps}
 use Rattle.rc_agreement.proofs.Reopened.{open_node, open_server}
-use Rattle.rc_starts.proofs.Lists.{map_in, some_in, or_case}
+use Rattle.rc_agreement.proofs.Cases.{or_case}
+use Rattle.rc_agreement.proofs.Lists.{any_of, map_in}
 
 -- what was named before stays named
 coords_keep : (t : ℕ) (xs : List CoordNode) (named : List ℕ) → In t named → In t (named_by_coords named xs)
@@ -49,11 +46,11 @@ named_again c v t h = member-in _ t (⊎_elim in_coords in_shards (or_case _ _ h
   where
     in_coords : list_any (λ (x : CoordNode). member nat_cmp (with_log [] x.log) t) v.parties.coords ≡ true → In t (named_by_shards (named_by_coords [] (map open_node v.parties.coords)) (map open_server v.parties.shards))
     in_coords e =
-        let x = some_in (λ (x : CoordNode). member nat_cmp (with_log [] x.log) t) v.parties.coords e in
+        let x = any_of (λ (x : CoordNode). member nat_cmp (with_log [] x.log) t) v.parties.coords e in
         shards_keep t (map open_server v.parties.shards) _
         (coords_have t (map open_node v.parties.coords) [] (open_node x.0) (map_in open_node x.0 v.parties.coords x.1) (in-member (with_log [] x.0.log) t x.2))
 
     in_shards : list_any (λ (x : ShardNode). member nat_cmp (with_log [] x.log) t) v.parties.shards ≡ true → In t (named_by_shards (named_by_coords [] (map open_node v.parties.coords)) (map open_server v.parties.shards))
     in_shards e =
-        let x = some_in (λ (x : ShardNode). member nat_cmp (with_log [] x.log) t) v.parties.shards e in
+        let x = any_of (λ (x : ShardNode). member nat_cmp (with_log [] x.log) t) v.parties.shards e in
         shards_have t (map open_server v.parties.shards) _ (open_server x.0) (map_in open_server x.0 v.parties.shards x.1) (in-member (with_log [] x.0.log) t x.2)

@@ -23,7 +23,8 @@ use Rattle.rc_agreement.proofs.Scenes.{scene, at}
 use Rattle.rc_agreement.proofs.Ballots.{Vote}
 use Rattle.rc_agreement.proofs.Choices.{choice_of, dc_of}
 use Rattle.rc_agreement.proofs.Reopened.{open_node, open_server}
-use Rattle.rc_starts.proofs.Lists.{map_in, in_got}
+use Rattle.rc_agreement.proofs.Lists.{map_in}
+use Rattle.rc_starts.proofs.Lists.{in_got}
 use Rattle.rc_starts.proofs.Sizes.{got_below, Sized}
 use Rattle.rc_starts.proofs.Naming.{named_again}
 use Rattle.rc_starts.proofs.Choosing.{chosen_same, logs_list, Voted, logs_from}

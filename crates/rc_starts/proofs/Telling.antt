@@ -1,5 +1,5 @@
 -- What is taken from the logs of a life, or from logs that say the same, is a start of it.
-use Rattle.std.proofs.Common.{◌≡◌, ℕ, suc, List, [], ◌∷◌, refl, sym, ap, ◌∙◌, subst, length}
+use Rattle.std.proofs.Common.{◌≡◌, suc, List, [], ◌∷◌, refl, sym, ap, ◌∙◌, subst, length}
 use Rattle.std.specs.Prelude.{map}
 use Rattle.rc_ids.specs.Cluster.{Layout, IsLayout}
 use Rattle.rc_record.specs.declared.record.Record.{Record}
@@ -10,7 +10,8 @@ use Rattle.rc_claims.specs.Outcomes.{VotesOneBody}
 use Rattle.rc_claims.specs.Lives.{IsLife, IsStartOf, SayWhat, SameCoordLog, SameShardLog, Pairwise}
 use Rattle.rc_agreement.proofs.Scenes.{scene}
 use Rattle.rc_agreement.proofs.AlikeLogs.{CoordLike, SameButLog, ShardLike, SameButItsLog}
-use Rattle.rc_agreement.proofs.Alike.{WorldLike, SameButParties, SameButNodes}
+use Rattle.rc_agreement.proofs.AlikeDeeds.{SameButNodes}
+use Rattle.rc_agreement.proofs.Alike.{WorldLike, SameButParties}
 use Rattle.rc_agreement.proofs.AlikeLives.{PlainLife, plain_life, coord_right, vote_left, start_left}
 use Rattle.rc_agreement.proofs.LifeLaws.{votes_one_body}
 use Rattle.rc_starts.proofs.Sizes.{Sized, life_sized}

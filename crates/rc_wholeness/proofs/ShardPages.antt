@@ -1,6 +1,6 @@
 -- A row of a shard finishes only what stands in the list of its datacentre, and passes no entry of it that it has to finish.
 use Rattle.std.proofs.Common.{◌≡◌, ℕ, List, [], ◌∷◌, refl, sym, ap, ◌∙◌, subst, Bool, true, false, Option, Some, None, ◌⊎◌, inl, inr, ⊎_elim, ◌+◌, length, true≢false}
-use Rattle.std.specs.Prelude.{filter, is_some, is_none, map, ◌&&◌, ◌==◌}
+use Rattle.std.specs.Prelude.{filter, is_some, is_none, ◌&&◌, ◌==◌}
 use Rattle.std.specs.Ordering.{nat_cmp}
 use Rattle.std.proofs.lemmas.Bool.{eqb-true}
 use Rattle.rc_ids.specs.Tables.{In, Table, found, put}
@@ -20,6 +20,8 @@ use Rattle.rc_protocol.specs.Messages.{coordinator, shard_server}
 use Rattle.rc_protocol.specs.Shard.{ShardVolatile, ShardAct, shard_stays, test, concerns, cut_to_part, is_free, grant_of, grants, ignores_ask, on_read_ask, on_prepare, on_finish, finishes_page, forgotten, forgotten_all, unfinished, is_next_shard_page, with_shard_cursor, asks_next_shard_page, then_says, takes_page, on_catch_page, shard_row}
 use Rattle.rc_protocol.specs.Nodes.{applied}
 use Rattle.rc_agreement.proofs.Cases.{on_cond, on_maybe, and_left}
+use Rattle.rc_agreement.proofs.Lists.{map_in}
+use Rattle.rc_serial_order.proofs.KeyFacts.{filter_in}
 use Rattle.rc_agreement.proofs.Tables.{put_same, put_cases, in_map}
 use Rattle.rc_protocol.specs.Acts.{NodeCause, Came, Catches, Takes}
 use Rattle.rc_agreement.proofs.Scenes.{Scene, at, shard_in, shard_act_of}
@@ -92,17 +94,6 @@ none_of None e = refl
 none_of (Some x) e = absurd (true≢false e)
 
 -- what a filter lets through stays
-pub filter_in : {A : Type 0} (p : A → Bool) (x : A) (xs : List A) → In x xs → p x ≡ true → In x (filter p xs)
-filter_in p x [] i e = i
-filter_in {A} p x (y ∷ ys) i e =
-    on_cond (λ (z : List A). In x z) (p y) (y ∷ filter p ys) (filter p ys)
-    (λ _. ⊎_elim inl (λ j. inr (filter_in p x ys j e)) i)
-    (λ f. ⊎_elim (λ (k : y ≡ x). absurd (true≢false (sym (ap p k ∙ e) ∙ f))) (λ j. filter_in p x ys j e) i)
-
-pub map_in : {A B : Type 0} (f : A → B) (x : A) (xs : List A) → In x xs → In (f x) (map f xs)
-map_in f x [] i = i
-map_in f x (y ∷ ys) i = ⊎_elim (λ e. inl (ap f e)) (λ j. inr (map_in f x ys j)) i
-
 pub record PageRow (s : Scene) (d sh : ℕ) (a : ShardAct) : Type 0 where
   pub says : EachTo (Asks d) a.sends
   pub enders : Enders s d a.logs

@@ -19,6 +19,7 @@ use Rattle.rc_agreement.proofs.PlainLives.{IsPlainLife}
 use Rattle.rc_claims.specs.Whole.{HasOrGets, IsWhole, AppliedIsWhole, IsCaughtUp}
 use Rattle.rc_agreement.proofs.Tables.{in_left, in_right}
 use Rattle.rc_agreement.proofs.Places.{node_is, server_is, listed_there}
+use Rattle.rc_agreement.proofs.Cases.{or_case}
 use Rattle.rc_agreement.proofs.Scenes.{Scene, scene, at, shard_in}
 use Rattle.rc_agreement.proofs.Ballots.{Vote, one_body}
 use Rattle.rc_agreement.proofs.Agreeing.{AllAgree, laws_at}
@@ -36,10 +37,6 @@ listed_body t (x ∷ xs) e = go (x.0 == t) refl (listed_body t xs) e
     go : (b : Bool) → (x.0 == t) ≡ b → (is_listed xs t ≡ true → (body : List Entry) × In (t, body) xs) → (b || is_listed xs t) ≡ true → (body : List Entry) × In (t, body) (x ∷ xs)
     go true k rest h = let n : x.0 ≡ t = eqb-true x.0 t k in (x.1, inl (λ i. (n i, x.1)))
     go false k rest h = let r = rest h in (r.0, inr r.1)
-
-or_case : (a b : Bool) → (a || b) ≡ true → (a ≡ true) ⊎ (b ≡ true)
-or_case true b e = inl refl
-or_case false b e = inr e
 
 below : (a b : ℕ) → (a < b) ⊎ (b ≤ a)
 below a b = go (nat_lt a b) refl
