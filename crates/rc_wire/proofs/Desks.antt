@@ -1,5 +1,5 @@
 -- Desks that change one at a time.
-use Rattle.std.proofs.Common.{◌≡◌, ℕ, zero, suc, ◌+◌, ◌<◌, ◌≤◌, List, [], ◌∷◌, ◌++◌, length, set, get_or, refl, ap, sym, ◌∙◌, arith}
+use Rattle.std.proofs.Common.{◌≡◌, ℕ, zero, suc, ◌<◌, List, [], ◌∷◌, length, set, get_or, ap, arith}
 use Rattle.rc_ids.specs.declared.names.Party.{Party}
 use Rattle.rc_wire.specs.declared.standing.Desk.{Desk}
 use Rattle.rc_wire.specs.declared.standing.Standing.{Standing}

@@ -1,5 +1,5 @@
 -- What is kept under the lock, once the history is one entry longer.
-use Rattle.std.proofs.Common.{◌≡◌, ℕ, zero, suc, ◌+◌, ◌*◌, ◌^◌, ◌<◌, ◌≤◌, ◌≢◌, ◌==◌, Bool, true, false, not, ◌&&◌, ◌||◌, cond, List, [], ◌∷◌, ◌++◌, map, length, get_or, slice_get, refl, ap, sym, ◌∙◌, subst, arith, append_assoc, Option, Some, None, eq-eqb, ne_eqb}
+use Rattle.std.proofs.Common.{◌≡◌, ℕ, zero, suc, ◌+◌, ◌*◌, ◌^◌, ◌<◌, ◌≤◌, ◌==◌, Bool, true, false, not, ◌&&◌, ◌||◌, cond, List, [], ◌∷◌, ◌++◌, length, get_or, slice_get, refl, ap, sym, ◌∙◌, subst, arith, Option, Some, None, eq-eqb, ne_eqb}
 use Rattle.std.specs.Prelude.{find, is_some}
 use Rattle.std.specs.List.{list_any}
 use Rattle.std.proofs.lemmas.List.{append-nil}
@@ -10,7 +10,7 @@ use Rattle.rc_ids.specs.declared.names.NodeId.{NodeId}
 use Rattle.rc_ids.specs.declared.names.NodeId.TheVariants.{Coord, Shard}
 use Rattle.rc_ids.specs.declared.names.Party.{Party}
 use Rattle.rc_ids.specs.declared.names.Party.TheVariants.{Node, Client}
-use Rattle.rc_net.specs.Network.{Network, Message, message}
+use Rattle.rc_net.specs.Network.{Network, Message}
 use Rattle.rc_wire.specs.declared.rules.Rules.{Rules}
 use Rattle.rc_wire.specs.declared.standing.Desk.{Desk}
 use Rattle.rc_wire.specs.declared.standing.Standing.{Standing}
@@ -82,11 +82,11 @@ by_own p turns act = by_more p turns (turn p act) ∙ ap (λ b. by p turns ++ co
 pub by_other : (q : Party) (turns : List Turn) (t : Turn) → is_same_party t.party q ≡ false → by q (turns ++ t ∷ []) ≡ by q turns
 by_other q turns t e = by_more q turns t ∙ ap (λ b. by q turns ++ cond b (t ∷ []) []) e ∙ append-nil (by q turns)
 
-after_last : (s : Standing) (xs : List Turn) (t : Turn) → after_all s (xs ++ t ∷ []) ≡ after (after_all s xs) t.act
+pub after_last : (s : Standing) (xs : List Turn) (t : Turn) → after_all s (xs ++ t ∷ []) ≡ after (after_all s xs) t.act
 after_last s [] t = refl
 after_last s (x ∷ xs) t = after_last (after s x.act) xs t
 
-traffic_last : (rules : Rules) (t : Traffic) (xs : List Turn) (e : Turn) → moved_by_all rules t (xs ++ e ∷ []) ≡ moved rules (moved_by_all rules t xs) e.party e.act
+pub traffic_last : (rules : Rules) (t : Traffic) (xs : List Turn) (e : Turn) → moved_by_all rules t (xs ++ e ∷ []) ≡ moved rules (moved_by_all rules t xs) e.party e.act
 traffic_last rules t [] e = refl
 traffic_last rules t (x ∷ xs) e = traffic_last rules (moved rules t x.party x.act) xs e
 

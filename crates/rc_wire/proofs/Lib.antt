@@ -2,4 +2,9 @@ pub mod Desks
 pub mod Hubs
 pub mod Numbers
 pub mod Walks
+pub mod Quiet
+pub mod Knowing
+pub mod Dealing
+pub mod Turning
+pub mod Closing
 pub mod Arrivals

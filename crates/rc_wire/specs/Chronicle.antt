@@ -1,5 +1,5 @@
 -- A wire as its calls see it: its rules, its parties and its history.
-use Rattle.std.specs.Prelude.{◌≡◌, ℕ, ◌+◌, ◌≤◌, ◌<◌, ◌^◌, Bool, true, false, not, ◌&&◌, if◌then◌else◌, List, [], ◌∷◌, ◌++◌, length, sum_by, Option, Some, None}
+use Rattle.std.specs.Prelude.{◌≡◌, ℕ, ◌+◌, ◌≤◌, ◌<◌, ◌^◌, Bool, true, false, not, ◌&&◌, if◌then◌else◌, List, [], ◌∷◌, ◌++◌, length, sum_by, Some, None}
 use Rattle.rc_ids.specs.declared.names.Party.{Party}
 use Rattle.rc_net.specs.Network.{Network, Message, message}
 use Rattle.rc_wire.specs.declared.fault.Taken.{Taken}

@@ -4,3 +4,6 @@ pub mod Traffic
 pub mod Wants
 pub mod Replay
 pub mod Chronicle
+pub mod Passes
+pub mod Places
+pub mod Turns

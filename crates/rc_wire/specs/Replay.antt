@@ -1,5 +1,5 @@
 -- What a history comes to.
-use Rattle.std.specs.Prelude.{◌==◌, Bool, ◌&&◌, ◌||◌, List, [], ◌∷◌, ◌++◌, length, Option, Some, None}
+use Rattle.std.specs.Prelude.{◌==◌, Bool, ◌&&◌, ◌||◌, List, [], ◌∷◌, length, Option, Some, None}
 use Rattle.rc_ids.specs.declared.names.Party.{Party}
 use Rattle.rc_wire.specs.declared.rules.Rules.{Rules}
 use Rattle.rc_wire.specs.declared.standing.Desk.{Desk}

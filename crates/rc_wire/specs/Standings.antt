@@ -1,5 +1,5 @@
 -- Where a party stands after its own entries.
-use Rattle.std.specs.Prelude.{ℕ, zero, suc, ◌+◌, Bool, true, false, ◌&&◌, ◌||◌, not, List, [], ◌∷◌, map, if◌then◌else◌, Option, Some, None, is_some}
+use Rattle.std.specs.Prelude.{ℕ, zero, suc, ◌+◌, Bool, true, false, ◌&&◌, ◌||◌, not, List, [], ◌∷◌, map, if◌then◌else◌, Some, None, is_some}
 use Rattle.std.specs.List.{list_all, list_any}
 use Rattle.rc_ids.specs.declared.names.Party.{Party}
 use Rattle.rc_wire.specs.declared.standing.Desk.{Desk}

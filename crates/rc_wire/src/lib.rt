@@ -2,16 +2,22 @@
 #![tactic(auto)]
 
 mod fault;
+mod history;
 mod hub;
 mod mail;
+mod pass;
 mod post;
 mod rules;
 mod standing;
 mod turn;
 mod want;
+mod wire;
 
 pub use fault::{PostFault, Taken};
+pub use history::History;
+pub use pass::{Known, Names, Pass, Passes, WireName};
 pub use rules::Rules;
 pub use standing::{Desk, Standing};
 pub use turn::{Act, HaltCause, StepEnd, Turn};
 pub use want::Want;
+pub use wire::{Blank, Wire};

@@ -1,7 +1,7 @@
-use Rattle.std.proofs.Common.{◌≡◌, ℕ, Bool, ◌<◌, Some, length, subst, sym, ◌∙◌}
+use Rattle.std.proofs.Common.{ℕ, Bool, ◌<◌, Some, length, subst, sym, ◌∙◌}
 use Rattle.rc_net.specs.Network.{message}
 use Rattle.rc_wire.specs.Wants.{is_for}
-use Rattle.rc_wire.proofs.Walks.{Reached, far, begins, goes_on, passes_here, ends, nearer}
+use Rattle.rc_wire.proofs.Walks.{Reached, far, goes_on, passes_here, ends, nearer}
 use Rattle.rc_wire.proofs.mail.oldest_for.Goals as goal
 
 pub returns-then-is_for : goal.returns-then-is_for

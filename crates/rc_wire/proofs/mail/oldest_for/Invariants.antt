@@ -1,4 +1,4 @@
-use Rattle.std.proofs.Common.{◌≡◌, length}
+use Rattle.std.proofs.Common.{length}
 use Rattle.rc_ids.specs.Sets.{IsRisingWithin}
 use Rattle.rc_net.specs.Network.{message}
 use Rattle.rc_wire.specs.Wants.{is_for}

@@ -1,9 +1,8 @@
-use Rattle.std.proofs.Common.{◌≡◌, ℕ, ◌==◌, true, false, sym, ap, ◌∙◌, List, cond, Option, Some, None}
-use Rattle.std.specs.Prelude.{position, remove}
+use Rattle.std.proofs.Common.{ℕ, ◌==◌, sym, ap, ◌∙◌, cond}
+use Rattle.std.specs.Prelude.{position}
 use Rattle.std.specs.Ordering.{nat_cmp}
 use Rattle.rc_ids.specs.Tables.{removed}
-use Rattle.rc_net.specs.Network.{Network}
-use Rattle.rc_wire.specs.Traffic.{Traffic, traffic_of}
+use Rattle.rc_wire.specs.Traffic.{traffic_of}
 use Rattle.rc_wire.proofs.Numbers.{place_found, place_missing}
 use Rattle.rc_wire.proofs.mail.take.Goals as goal
 

@@ -1,8 +1,8 @@
-use Rattle.std.proofs.Common.{◌≡◌, ℕ, suc, ◌+◌, ◌-◌, ◌<◌, ◌≤◌, true, ◌++◌, length, subst, sym, ap, ◌∙◌, arith}
+use Rattle.std.proofs.Common.{◌≡◌, suc, ◌+◌, ◌++◌, length, subst, ap, ◌∙◌, arith}
 use Rattle.rc_ids.specs.Sets.{IsRisingWithin}
 use Rattle.rc_net.specs.Network.{messages}
-use Rattle.rc_wire.specs.Traffic.{Traffic, traffic_of, arrived, is_lost}
-use Rattle.rc_wire.proofs.Arrivals.{half, half_more}
+use Rattle.rc_wire.specs.Traffic.{Traffic, traffic_of, arrived}
+use Rattle.rc_wire.proofs.Arrivals.{half_more}
 use Rattle.rc_wire.proofs.post.post.Goals as goal
 
 pub loop-number-preserved : goal.loop-number-preserved

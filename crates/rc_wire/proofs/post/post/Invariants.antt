@@ -1,4 +1,4 @@
-use Rattle.std.proofs.Common.{◌≡◌, ◌+◌, ◌-◌, ◌≤◌, ◌++◌, length, vec_len, vec_capacity}
+use Rattle.std.proofs.Common.{◌≡◌, ◌+◌, ◌-◌, ◌≤◌, ◌++◌, vec_len, vec_capacity}
 use Rattle.rc_net.specs.Network.{messages}
 use Rattle.rc_wire.specs.Traffic.{traffic_of}
 use Rattle.rc_wire.proofs.Arrivals.{half}

@@ -1,4 +1,4 @@
-use Rattle.std.proofs.Common.{◌≡◌, ◌++◌, ap, ◌∙◌}
+use Rattle.std.proofs.Common.{◌++◌, ap, ◌∙◌}
 use Rattle.rc_wire.proofs.Desks.{stood_set, noted_at}
 use Rattle.rc_wire.proofs.standing.note.Goals as goal
 

@@ -1,4 +1,4 @@
-use Rattle.std.proofs.Common.{◌≡◌, ℕ, ◌+◌, ◌<◌, false, get_or, ◌++◌, length, sym, ap, ◌∙◌, subst, arith, refl, List}
+use Rattle.std.proofs.Common.{◌≡◌, false, get_or, ◌++◌, length, sym, ap, ◌∙◌, subst, arith, refl, List}
 use Rattle.std.proofs.lemmas.List.{with_items_is}
 use Rattle.std.specs.Prelude.{vec_len, vec_capacity}
 use Rattle.rc_wire.specs.declared.standing.Desk.{Desk}

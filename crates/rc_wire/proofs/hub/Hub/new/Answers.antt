@@ -1,4 +1,4 @@
-use Rattle.std.proofs.Common.{◌≡◌, ◌≤◌, ◌*◌, length, arith}
+use Rattle.std.proofs.Common.{arith}
 use Rattle.rc_wire.proofs.Hubs.{hub_first, view_first}
 use Rattle.rc_wire.proofs.hub.Hub.new.Goals as goal
 

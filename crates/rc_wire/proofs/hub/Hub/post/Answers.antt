@@ -1,14 +1,12 @@
-use Rattle.std.proofs.Common.{◌≡◌, ℕ, ◌+◌, ◌*◌, ◌<◌, ◌≤◌, true, false, get_or, ◌++◌, length, sym, ap, ◌∙◌, subst, arith, refl, List, Some}
+use Rattle.std.proofs.Common.{◌++◌, length, sym, ap, ◌∙◌, subst, arith, List}
 use Rattle.std.proofs.lemmas.List.{with_items_is}
 use Rattle.std.specs.Prelude.{vec_len, vec_capacity}
-use Rattle.rc_net.specs.Network.{message}
 use Rattle.rc_wire.specs.declared.standing.Desk.{Desk}
-use Rattle.rc_wire.specs.declared.turn.Act.TheVariants.{Took, Posted}
-use Rattle.rc_wire.specs.Standings.{stood, noted, parties_of}
-use Rattle.rc_wire.specs.Traffic.{Traffic, traffic, traffic_of, posted}
-use Rattle.rc_wire.specs.Wants.{is_for, first_for, oldest_for}
-use Rattle.rc_wire.specs.Chronicle.{Chronicle, IsHub, chronicle}
-use Rattle.rc_wire.proofs.Hubs.{place_in, hub_after, view_after, room_anew, no_desk, stood_length, found_passes, is_there, any_default, party_here}
+use Rattle.rc_wire.specs.declared.turn.Act.TheVariants.{Posted}
+use Rattle.rc_wire.specs.Standings.{stood, noted}
+use Rattle.rc_wire.specs.Traffic.{posted}
+use Rattle.rc_wire.specs.Chronicle.{IsHub}
+use Rattle.rc_wire.proofs.Hubs.{place_in, hub_after, view_after, room_anew, no_desk, stood_length, any_default}
 use Rattle.rc_wire.proofs.hub.Hub.post.Goals as goal
 
 pub invariant_of-self-2 : goal.invariant_of-self-2

@@ -1,11 +1,11 @@
-use Rattle.std.proofs.Common.{◌≡◌, ℕ, ◌+◌, ◌<◌, true, false, not, ◌&&◌, get_or, cond, ◌++◌, length, sym, ap, ◌∙◌, subst, arith, refl, List}
+use Rattle.std.proofs.Common.{◌≡◌, true, false, not, ◌&&◌, get_or, cond, ◌++◌, length, sym, ap, ◌∙◌, subst, arith, refl, List}
 use Rattle.std.proofs.lemmas.List.{with_items_is}
 use Rattle.std.specs.Prelude.{vec_len, vec_capacity}
 use Rattle.rc_wire.specs.declared.standing.Desk.{Desk}
 use Rattle.rc_wire.specs.declared.standing.Standing.{Standing}
 use Rattle.rc_wire.specs.declared.turn.Act.TheVariants.{Rested}
 use Rattle.rc_wire.specs.Standings.{by, standing, stood, noted}
-use Rattle.rc_wire.specs.Chronicle.{Chronicle, IsHub, more}
+use Rattle.rc_wire.specs.Chronicle.{IsHub, more}
 use Rattle.rc_wire.proofs.Hubs.{place_in, hub_after, view_after, of_desk, rest_uses, some_room, room_used, no_desk, stood_length, any_default, standing_at}
 use Rattle.rc_wire.proofs.hub.Hub.rest.Goals as goal
 

@@ -1,4 +1,4 @@
-use Rattle.std.proofs.Common.{◌≡◌, sym, ap, ◌∙◌}
+use Rattle.std.proofs.Common.{sym, ap, ◌∙◌}
 use Rattle.rc_wire.specs.Standings.{after}
 use Rattle.rc_wire.proofs.standing.Standing.after.Goals as goal
 
