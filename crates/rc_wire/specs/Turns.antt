@@ -10,7 +10,7 @@ use Rattle.rc_wire.specs.declared.pass.Known.{Known}
 use Rattle.rc_wire.specs.declared.turn.Act.{Act}
 use Rattle.rc_wire.specs.declared.turn.Act.TheVariants.{Took, Rested}
 use Rattle.rc_wire.specs.declared.want.Want.{Want}
-use Rattle.rc_wire.specs.Chronicle.{Chronicle, replayed, more}
+use Rattle.rc_wire.specs.Chronicle.{Chronicle, chronicle, replayed, more}
 use Rattle.rc_wire.specs.Passes.{IsFront}
 use Rattle.rc_wire.specs.Replay.{is_closed, is_quiescent}
 use Rattle.rc_wire.specs.Standings.{turn, by, standing}
@@ -19,6 +19,9 @@ use Rattle.rc_wire.specs.Wants.{oldest_for}
 -- the name of no wire
 abbrev pub no_table : TableId
 no_table = record { words = 0; slots = 0; views_name = 0; atom = 0; block = 0; offset = 0; slot_names = [] }
+
+abbrev pub no_names : Chronicle
+no_names = chronicle (record { lose_every = 0; repeat_every = 0 }) [] []
 
 -- the number of the turn rises, what was seen is a beginning of what is seen now, and the pass stays one of its party
 pub record IsTurn (old new : Known) : Type 0 where

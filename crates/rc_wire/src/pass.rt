@@ -8,7 +8,7 @@ use crate::turn::Turn;
 use rc_ids::Party;
 use rc_ticket::{Guarded, Place};
 use std::collections::LinkedList;
-use std::marker::{Model, PhantomData};
+use std::marker::{Brand, Model, PhantomData};
 
 /// What a pass knows of its wire. No value of it is made.
 pub struct Known {
@@ -58,6 +58,15 @@ pub trait WireName {
 
     // Its history is empty.
     ghost names: { Chronicle };
+}
+
+// Names no wire until a call picks the names.
+impl WireName for Brand {
+    ghost use Rattle.rc_wire.specs.Turns.{no_table, no_names};
+
+    ghost table = { no_table };
+
+    ghost names = { no_names };
 }
 
 /// A place at the lock with the card of one seat. It has no bytes but the seat's number.
