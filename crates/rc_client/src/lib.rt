@@ -17,8 +17,6 @@ mod retrying;
 mod slot;
 mod slot_list;
 mod slots;
-#[cfg(test)]
-mod tests;
 mod voting;
 mod writing;
 

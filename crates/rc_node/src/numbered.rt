@@ -2,8 +2,7 @@
 ghost use Rattle.std.specs.Prelude.{◌≡◌, ◌≤◌, ◌<◌, ◌+◌, [], is_some, OnOk};
 ghost use Rattle.std.specs.Option.{option_copied};
 ghost use Rattle.std.specs.Ordering.{nat_cmp};
-ghost use Rattle.rc_ids.specs.Tables.{found, without};
-ghost use Rattle.rc_ids.specs.Tables as tables;
+ghost use Rattle.rc_ids.specs.Tables.{found, put as with_value, without};
 ghost use Rattle.rc_body.specs.Pages.{TxsDiffer};
 ghost use Rattle.rc_record.specs.InOrder.{filed};
 
@@ -79,7 +78,7 @@ impl<X: Drop> Numbered<X> {
     /// Gives the transaction the value. There is room for it.
     pub fn put(&mut self, tx: TxId, value: X)
         requires { 0 < self.old.spare }
-        ensures table { self.new.table ≡ tables.put nat_cmp self.old.table tx value }
+        ensures table { self.new.table ≡ with_value nat_cmp self.old.table tx value }
         ensures spare { self.old.spare ≤ self.new.spare + 1 }
     {
         let _ = self.list.insert(tx, value).unwrap();

@@ -1,5 +1,5 @@
 -- A journal whose records give the durable state back still does after an act: one step of a replay at a time.
-use Rattle.std.proofs.Common.{◌≡◌, ℕ, suc, ◌+◌, ◌==◌, length, Bool, true, false, ◌&&◌, ◌||◌, List, [], ◌∷◌, ◌++◌, Option, Some, None, Result, Ok, Err, IfSome, is_some, refl, sym, ap, subst, ◌∙◌}
+use Rattle.std.proofs.Common.{◌≡◌, ℕ, suc, ◌+◌, ◌==◌, length, Bool, true, false, ◌&&◌, ◌||◌, List, [], ◌∷◌, ◌++◌, Option, Some, None, Result, Ok, Err, IfSome, is_some, refl, ap, ◌∙◌}
 use Rattle.std.specs.Prelude.{if◌then◌else◌}
 use Rattle.std.specs.Ordering.{nat_cmp}
 use Rattle.rc_ids.specs.declared.names.NodeId.{NodeId}
@@ -22,7 +22,7 @@ use Rattle.rc_record.specs.ShardState.{ShardDurable, new_durable, shard_applied}
 use Rattle.rc_record.specs.Spelling.{record_bytes, HasRecord}
 use Rattle.rc_protocol.specs.Acts.{NodeCause, Came, Catches, Takes, shard_act}
 use Rattle.rc_protocol.specs.Nodes.{applied}
-use Rattle.rc_protocol.specs.Shard.{ShardVolatile, ShardAct, shard_stays, shard_says, shard_row, ignores_ask, is_free, locks_plain, grant_of, waits, preempted, answers, test, finishes_page, then_says, takes_page, with_shard_cursor, unfinished, asks_next_shard_page, is_next_shard_page}
+use Rattle.rc_protocol.specs.Shard.{ShardVolatile, ShardAct, shard_stays, shard_says, shard_row, ignores_ask, is_free, locks_plain, grant_of, waits, preempted, answers, test, finishes_page, takes_page, with_shard_cursor, unfinished, is_next_shard_page}
 use Rattle.rc_shard.specs.Replays.{reached, GivesBack, with_record}
 
 abbrev Step : Type 0

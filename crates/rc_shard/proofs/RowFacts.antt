@@ -18,7 +18,7 @@ use Rattle.rc_locks.specs.LockSets.{LockSets}
 use Rattle.rc_node.specs.declared.fault.NodeFault.{NodeFault}
 use Rattle.rc_node.specs.declared.fault.NodeFault.TheVariants.{NoMemory, Failed, Full, BallotsSpent}
 use Rattle.rc_shard.specs.Plans.{AreNew}
-use Rattle.rc_node.specs.Acts.{NodeAct, Acts, Refuses, Stays, FailsAt, IsFullAt, shard_does}
+use Rattle.rc_node.specs.Acts.{NodeAct, Acts, Refuses, Stays, shard_does}
 use Rattle.rc_msg.specs.Posts.{posted_all}
 use Rattle.rc_shard.specs.Rows.{asks}
 use Rattle.rc_shard.specs.Sites.{ShardSite, site}

@@ -1,7 +1,7 @@
 -- What a page of outcomes makes of the tables, in lists that are made before anything changes.
 use Rattle.std.specs.Prelude.{◌≡◌, ℕ, ◌+◌, List, [], ◌∷◌, ◌++◌, map, None}
 use Rattle.std.specs.Ordering.{nat_cmp}
-use Rattle.rc_ids.specs.Tables.{Table, found, put, maybe}
+use Rattle.rc_ids.specs.Tables.{Table, found, maybe}
 use Rattle.rc_ids.specs.declared.names.Outcome.{Outcome}
 use Rattle.rc_body.specs.declared.entry.Entry.{Entry}
 use Rattle.rc_body.specs.declared.decision.Decision.{Decision}

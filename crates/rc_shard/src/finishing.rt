@@ -2,8 +2,7 @@
 ghost use Rattle.std.specs.Prelude.{◌≡◌, ◌+◌, ◌^◌, ◌<◌, ℕ, true, false, is_some, length, OnOk, IfErr, IsOk};
 ghost use Rattle.std.specs.Ordering.{nat_cmp};
 ghost use Rattle.rc_ids.specs.Tables.{found};
-ghost use Rattle.rc_protocol.specs.Shard.{on_finish, on_catch_page, takes_page, then_says, with_shard_cursor, asks_next_shard_page};
-ghost use Rattle.rc_protocol.specs.Shard as shard_spec;
+ghost use Rattle.rc_protocol.specs.Shard.{on_finish, on_catch_page, takes_page, then_says, with_shard_cursor, asks_next_shard_page, is_next_shard_page as is_next};
 ghost use Rattle.rc_node.specs.Acts.{Acts, Refuses, shard_does};
 ghost use Rattle.rc_shard.specs.Plans.{AreNew};
 ghost use Rattle.rc_shard.specs.Rows.{asks, only_placed};
@@ -46,7 +45,7 @@ pub(crate) fn finish<J: Journal, L: LockTable>(
 
 /// Whether the page of outcomes is the next one, and its end is a place.
 fn is_next_page(caught: u32, place: u32, page: &Page) -> bool
-    ensures { result ≡ shard_spec.is_next_shard_page (only_placed caught) place page.now }
+    ensures { result ≡ is_next (only_placed caught) place page.now }
 {
     place == caught && place as u64 + (page.len() as u64) < 1 << 32
 }
@@ -103,7 +102,7 @@ pub(crate) fn catch_page<J: Journal, L: LockTable>(
         OnOk result (Acts old (site_of L.state tables.new (J.state journal.new) out.new) (shard_does old.durable (on_catch_page home.now.cluster home.now.dc home.now.shard old.durable old.volatile place page.now))) }
     ensures err { let old = site_of L.state tables.old (J.state journal.old) out.old in
         IfErr result (λ fault. Refuses fault (J.may_leave journal.new) old (site_of L.state tables.new (J.state journal.new) out.new) (shard_does old.durable (on_catch_page home.now.cluster home.now.dc home.now.shard old.durable old.volatile place page.now))) }
-    ensures ignored { shard_spec.is_next_shard_page (only_placed tables.old.place) place page.now ≡ false → IsOk result }
+    ensures ignored { is_next (only_placed tables.old.place) place page.now ≡ false → IsOk result }
 {
     if !is_next_page(tables.place, place, page) {
         return Ok(());

@@ -1,6 +1,6 @@
 // What a shard server does at a message.
 ghost use Rattle.std.specs.Prelude.{◌≡◌, false, true, IsOk, OnOk, IfErr};
-ghost use Rattle.rc_ids.specs.Cluster as cluster_spec;
+ghost use Rattle.rc_ids.specs.Cluster.{is_dc as has_dc};
 ghost use Rattle.rc_protocol.specs.Shard.{shard_row};
 ghost use Rattle.rc_node.specs.Acts.{Acts, Refuses, shard_does};
 ghost use Rattle.rc_shard.specs.Rows.{needs_none};
@@ -19,7 +19,7 @@ use rc_node::NodeFault;
 
 /// Whether the datacentre is of the cluster.
 fn is_dc(cluster: &Cluster, dc: DcId) -> bool
-    ensures { result ≡ cluster_spec.is_dc cluster.now dc }
+    ensures { result ≡ has_dc cluster.now dc }
 {
     1 <= dc.0 && dc.0 <= cluster.dcs()
 }

@@ -1,7 +1,6 @@
 // What a page of outcomes makes of the tables, made before anything changes.
 ghost use Rattle.std.specs.Prelude.{◌≡◌, ◌++◌, ◌+◌, ◌-◌, ◌^◌, ◌==◌, false, OnOk, IfOk};
-ghost use Rattle.rc_shard.specs.Plans.{writes_by};
-ghost use Rattle.rc_shard.specs.Plans as plans;
+ghost use Rattle.rc_shard.specs.Plans.{writes_in as part_writes, writes_by, writes_of as page_writes, txs_of as page_txs, outcomes_of as page_outcomes};
 
 use crate::rows::Write;
 use rc_body::{Body, Decision, Page};
@@ -17,7 +16,7 @@ pub(crate) struct Plan {
 }
 
 fn txs_of(alloc: Global, page: &Page) -> Result<Vec<TxId>, NoMemory>
-    ensures { IfOk result (λ txs. txs.items ≡ plans.txs_of page.now) }
+    ensures { IfOk result (λ txs. txs.items ≡ page_txs page.now) }
 {
     let mut txs = Vec::new(alloc);
     for index in 0..page.len() {
@@ -28,7 +27,7 @@ fn txs_of(alloc: Global, page: &Page) -> Result<Vec<TxId>, NoMemory>
 }
 
 fn outcomes_of(alloc: Global, page: &Page) -> Result<Vec<(TxId, Outcome)>, NoMemory>
-    ensures { IfOk result (λ outcomes. outcomes.items ≡ plans.outcomes_of page.now) }
+    ensures { IfOk result (λ outcomes. outcomes.items ≡ page_outcomes page.now) }
 {
     let mut outcomes = Vec::new(alloc);
     for index in 0..page.len() {
@@ -49,7 +48,7 @@ fn write_of(key: &Key, read: Version, value: &Val) -> Result<Write, NoMemory>
 
 /// Adds the writes of a part.
 fn add_writes_in(writes: &mut Vec<Write>, part: &Body) -> Result<(), NoMemory>
-    ensures { OnOk result (writes.new.items ≡ writes.old.items ++ plans.writes_in part.now) }
+    ensures { OnOk result (writes.new.items ≡ writes.old.items ++ part_writes part.now) }
 {
     for index in 0..part.len() {
         let entry = part.entry(index);
@@ -71,7 +70,7 @@ fn add_writes_by(writes: &mut Vec<Write>, decision: &Decision) -> Result<(), NoM
 }
 
 fn writes_of(alloc: Global, page: &Page) -> Result<Vec<Write>, NoMemory>
-    ensures { IfOk result (λ writes. writes.items ≡ plans.writes_of page.now) }
+    ensures { IfOk result (λ writes. writes.items ≡ page_writes page.now) }
 {
     let mut writes = Vec::new(alloc);
     for index in 0..page.len() {
@@ -84,9 +83,9 @@ fn writes_of(alloc: Global, page: &Page) -> Result<Vec<Write>, NoMemory>
 impl Plan {
     /// What the page makes of the tables.
     pub(crate) fn new(alloc: Global, page: &Page) -> Result<Plan, NoMemory>
-        ensures txs { IfOk result (λ plan. plan.txs.items ≡ plans.txs_of page.now) }
-        ensures outcomes { IfOk result (λ plan. plan.outcomes.items ≡ plans.outcomes_of page.now) }
-        ensures writes { IfOk result (λ plan. plan.writes.items ≡ plans.writes_of page.now) }
+        ensures txs { IfOk result (λ plan. plan.txs.items ≡ page_txs page.now) }
+        ensures outcomes { IfOk result (λ plan. plan.outcomes.items ≡ page_outcomes page.now) }
+        ensures writes { IfOk result (λ plan. plan.writes.items ≡ page_writes page.now) }
     {
         Ok(Plan {
             txs: txs_of(alloc, page)?,

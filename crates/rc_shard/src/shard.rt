@@ -5,10 +5,8 @@ ghost use Rattle.rc_log.specs.Journals.{with_cut};
 ghost use Rattle.rc_msg.specs.Posts.{posted_all};
 ghost use Rattle.rc_record.specs.InOrder.{shown};
 ghost use Rattle.rc_protocol.specs.Acts.{Came, Catches};
-ghost use Rattle.rc_protocol.specs.Shard.{new_durable, new_volatile};
-ghost use Rattle.rc_protocol.specs.Shard as shard_spec;
-ghost use Rattle.rc_node.specs.Cores.{HasActed, HasRefused, moved, started};
-ghost use Rattle.rc_node.specs.Cores as cores;
+ghost use Rattle.rc_protocol.specs.Shard.{new_durable, new_volatile, holder as holder_of};
+ghost use Rattle.rc_node.specs.Cores.{HasActed, HasRefused, moved, started, stops as stops_after};
 ghost use Rattle.rc_node.specs.declared.fault.NodeFault.TheVariants.{BallotsSpent};
 ghost use Rattle.rc_shard.specs.Rows.{needs_none};
 ghost use Rattle.rc_shard.specs.Sites.{act_at, shard_name};
@@ -74,7 +72,7 @@ fn home_of(alloc: Global, node: NodeId, cluster: &Cluster) -> Result<Home, NoMem
 
 /// Whether a server is stopped after the fault.
 fn stops(fault: NodeFault) -> bool
-    ensures { result ≡ cores.stops fault }
+    ensures { result ≡ stops_after fault }
 {
     match fault {
         NodeFault::NoMemory | NodeFault::BallotsSpent => false,
@@ -176,7 +174,7 @@ impl<J: Journal, L: LockTable> Shard<J, L> {
 
     /// Who holds the key exclusively: the least transaction whose prepared part writes it.
     pub fn holder(&self, key: &Key) -> Option<TxId>
-        ensures { result ≡ shard_spec.holder self.now.durable.parts key.now }
+        ensures { result ≡ holder_of self.now.durable.parts key.now }
     {
         self.tables.locks.holder(key)
     }

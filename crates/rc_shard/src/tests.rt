@@ -23,7 +23,30 @@ fn write_of(alloc: Global, key: &Key) -> Result<Body, Fail> {
     Ok(body)
 }
 
-/// A read waits for a prepared write, and is granted when the write is finished.
+/// A prepared part holds its key until its outcome comes, and then its write is a row.
+#[test]
+fn a_part_is_held_and_then_applied(rt: HostRuntime) -> Result<(), Fail> {
+    let alloc = rt.alloc();
+    let cluster = Cluster::new(3, 1, Vec::new(alloc))?;
+    let Ok(mut server) = Shard::<ListJournal>::new(alloc, NODE, &cluster, ListJournal::new(alloc))
+    else {
+        panic!(rt; "no memory");
+    };
+    let key = Key::new(b"x")?;
+    let mut out = Outbox::new(alloc, Party::Node(NODE));
+    assert!(rt; !server.stopped());
+    let prepare = Msg::Prepare(TxId(1), write_of(alloc, &key)?);
+    server.handle(COORD, &prepare, &mut out)?;
+    assert!(rt; server.holder(&key) == Some(TxId(1)));
+    let finish = Msg::Finish(TxId(1), Decision::Commit(write_of(alloc, &key)?));
+    server.handle(COORD, &finish, &mut out)?;
+    assert!(rt; server.holder(&key).is_none());
+    assert!(rt; server.rows().next().is_some());
+    assert_eq!(rt; server.into_journal().count(), 2);
+    Ok(())
+}
+
+/// A read waits for a prepared write, and is granted when the write ends.
 #[test]
 fn a_read_waits_for_a_write(rt: HostRuntime) -> Result<(), Fail> {
     let alloc = rt.alloc();
@@ -32,31 +55,17 @@ fn a_read_waits_for_a_write(rt: HostRuntime) -> Result<(), Fail> {
     else {
         panic!(rt; "no memory");
     };
-    assert!(rt; !server.stopped());
     let key = Key::new(b"x")?;
     let mut out = Outbox::new(alloc, Party::Node(NODE));
-    let part = write_of(alloc, &key)?;
-    server.handle(COORD, &Msg::Prepare(TxId(1), part.copy()?), &mut out)?;
-    assert_eq!(rt; out.len(), 1);
-    assert!(rt; server.holder(&key) == Some(TxId(1)));
-    server.handle(
-        Party::Client(TxId(2)),
-        &Msg::ReadAsk(TxId(2), key.copy()),
-        &mut out,
-    )?;
-    assert_eq!(rt; out.len(), 1);
-    server.handle(
-        COORD,
-        &Msg::Finish(TxId(1), Decision::Commit(part)),
-        &mut out,
-    )?;
-    assert_eq!(rt; out.len(), 2);
-    assert!(rt; server.holder(&key).is_none());
-    let mut rows = server.rows();
-    assert!(rt; rows.next().is_some());
-    assert!(rt; rows.next().is_none());
     assert!(rt; !server.stopped());
-    assert_eq!(rt; server.into_journal().count(), 2);
+    let prepare = Msg::Prepare(TxId(1), write_of(alloc, &key)?);
+    server.handle(COORD, &prepare, &mut out)?;
+    let ask = Msg::ReadAsk(TxId(2), key);
+    server.handle(Party::Client(TxId(2)), &ask, &mut out)?;
+    assert_eq!(rt; out.len(), 1);
+    let finish = Msg::Finish(TxId(1), Decision::Abort);
+    server.handle(COORD, &finish, &mut out)?;
+    assert_eq!(rt; out.len(), 2);
     Ok(())
 }
 

@@ -1,4 +1,4 @@
-use Rattle.std.proofs.Common.{◌≡◌, [], sym, ap, subst, ◌∙◌}
+use Rattle.std.proofs.Common.{[], sym, ap, subst, ◌∙◌}
 use Rattle.std.specs.Ordering.{nat_cmp}
 use Rattle.std.proofs.lemmas.Result.{MatchResult-at_ok}
 use Rattle.rc_ids.specs.Tables.{put}
