@@ -50,9 +50,9 @@ fn end_read(
 ) -> Result<(), ClientFault>
     requires { reads_on (phase_of progress.old.phase) ≡ true }
     ensures ok { let ended = with_slots (client_of progress.old) (maybe (slot_of progress.old.slots key.now) progress.old.slots (λ (s : Slot). slot_set progress.old.slots (with_read s (read_of read)))) in
-        OnOk result (Acts (site_of progress.old out.old []) (site_of progress.new out.new []) (goes_on cluster.now progress.old.tx ended)) }
+        OnOk result (Acts (site_of progress.old out.old []) (site_of progress.new out.new []) (proposes_once_read cluster.now progress.old.tx ended)) }
     ensures err { let ended = with_slots (client_of progress.old) (maybe (slot_of progress.old.slots key.now) progress.old.slots (λ (s : Slot). slot_set progress.old.slots (with_read s (read_of read)))) in
-        IfErr result (λ fault. Fails fault (site_of progress.old out.old []) (site_of progress.new out.new []) (goes_on cluster.now progress.old.tx ended)) }
+        IfErr result (λ fault. Fails fault (site_of progress.old out.old []) (site_of progress.new out.new []) (proposes_once_read cluster.now progress.old.tx ended)) }
     ensures open { IsErrOf result NotOpen → ⊥ }
     ensures votes { progress.new.votes ≡ progress.old.votes }
     ensures grows { Grows out.old out.new }

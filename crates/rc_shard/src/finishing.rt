@@ -74,9 +74,9 @@ fn take_page<J: Journal, L: LockTable>(
     requires sound { (J.state journal.old).failed ≡ false }
     requires new { AreNew tables.old.finished.table left.now }
     ensures ok { let old = site_of L.state tables.old (J.state journal.old) out.old in
-        OnOk result (Acts old (site_of L.state tables.new (J.state journal.new) out.new) (shard_does old.durable (then_says (takes_page home.now.dc old.durable (with_place old.volatile next) left.now) (asks home.now.dc ask)))) }
+        OnOk result (Acts old (site_of L.state tables.new (J.state journal.new) out.new) (shard_does old.durable (then_says (takes_page home.now.dc old.durable (with_shard_cursor old.volatile next) left.now) (asks home.now.dc ask)))) }
     ensures err { let old = site_of L.state tables.old (J.state journal.old) out.old in
-        IfErr result (λ fault. Refuses fault (J.may_leave journal.new) old (site_of L.state tables.new (J.state journal.new) out.new) (shard_does old.durable (then_says (takes_page home.now.dc old.durable (with_place old.volatile next) left.now) (asks home.now.dc ask)))) }
+        IfErr result (λ fault. Refuses fault (J.may_leave journal.new) old (site_of L.state tables.new (J.state journal.new) out.new) (shard_does old.durable (then_says (takes_page home.now.dc old.durable (with_shard_cursor old.volatile next) left.now) (asks home.now.dc ask)))) }
 {
     if left.is_empty() {
         post_ask(home.dc, ask, out)?;

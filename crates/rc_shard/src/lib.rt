@@ -17,8 +17,6 @@ mod settling;
 mod shard;
 mod starting;
 mod tables;
-#[cfg(test)]
-mod tests;
 
 pub use laws::replay_laws;
 pub use shard::Shard;

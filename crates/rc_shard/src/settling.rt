@@ -109,9 +109,9 @@ pub(crate) fn settle_page<J: Journal, L: LockTable>(
     requires sound { (J.state journal.old).failed ≡ false }
     requires new { AreNew tables.old.finished.table page.now }
     ensures ok { let old = site_of L.state tables.old (J.state journal.old) out.old in
-        OnOk result (Acts old (site_of L.state tables.new (J.state journal.new) out.new) (shard_does old.durable (then_says (finishes home.now.dc old.durable old.volatile page.now) (asks home.now.dc ask)))) }
+        OnOk result (Acts old (site_of L.state tables.new (J.state journal.new) out.new) (shard_does old.durable (then_says (finishes_page home.now.dc old.durable old.volatile page.now) (asks home.now.dc ask)))) }
     ensures err { let old = site_of L.state tables.old (J.state journal.old) out.old in
-        IfErr result (λ fault. Refuses fault (J.may_leave journal.new) old (site_of L.state tables.new (J.state journal.new) out.new) (shard_does old.durable (then_says (finishes home.now.dc old.durable old.volatile page.now) (asks home.now.dc ask)))) }
+        IfErr result (λ fault. Refuses fault (J.may_leave journal.new) old (site_of L.state tables.new (J.state journal.new) out.new) (shard_does old.durable (then_says (finishes_page home.now.dc old.durable old.volatile page.now) (asks home.now.dc ask)))) }
 {
     let _entries = page.len();
     let before = out.len();
