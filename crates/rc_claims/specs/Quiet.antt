@@ -95,7 +95,7 @@ need_of t from (Node (ShardServer d sh)) (ReadAsk u k) = of_tx t u (Asks d k)
 need_of t (Node (ShardServer d sh)) to (Granted u k e version value) = of_tx t u (Grants d k)
 need_of t from (Node (Coord d)) (Propose u b o) = of_tx t u (Proposes d)
 need_of t from (Node (ShardServer d sh)) (Prepare u part) = of_tx t u (Prepares d sh)
-need_of t (Node (ShardServer d sh)) to (Prepared u sh reason) = of_tx t u (Answers d sh)
+need_of t (Node (ShardServer d sh)) to (Prepared u shard reason) = of_tx t u (Answers d sh)
 need_of t (Node (Coord d)) (ClientOf x) (Voted u b e o) = of_tx t u (Votes d)
 need_of t from to msg = None
 

@@ -17,7 +17,7 @@ use Rattle.rc_runs.specs.World.{World, course_deed, step, printed, order}
 use Rattle.rc_runs.specs.Refusals.{Happening, wrong, limit, begins, most_transactions, most_events, worn_out, too_much_sent, is_event, after_event, run, lines_at, lines}
 use Rattle.rc_runs.specs.Session.{Session, Halt, Misnamed, Limited, FarmFails, DiskChange, disk_change, with_change, with_world, with_text, text_bytes, most_text_bytes, prints, happens_with, happens_within_limits, happens, Happened}
 use Rattle.rc_runs.specs.Script.{LineDone, line_done, then_line, then_trace, unless_halted, by_event, by_lines, idle, oldest, steps, settles, each, pending_lines, shown_lines, performs}
-use Rattle.rc_traces.specs.Own.{own_lines, unless_halted}
+use Rattle.rc_traces.specs.Own.{own_lines, lines_unless_halted}
 
 on_cond : {A : Type 0} (P : A → Type 0) (b : Bool) (x y : A) → (b ≡ true → P x) → (b ≡ false → P y) → P (cond b x y)
 on_cond P true x y p q = p refl
@@ -95,9 +95,9 @@ event_counts z e = go (happens z e)
 idle_traced : (z : Session) → Traced z (idle z) []
 idle_traced z = record { world = refl; prints = refl }
 
-own_traced : (z : Session) (ls : List Line) → Traced z (by_lines z ls) (unless_halted (by_lines z ls) ls)
+own_traced : (z : Session) (ls : List Line) → Traced z (by_lines z ls) (lines_unless_halted (by_lines z ls) ls)
 own_traced z ls =
-    on_cond (λ (done : Happened). Traced z (line_done z [] done) (unless_halted (line_done z [] done) ls)) (nat_lt most_text_bytes (z.text + text_bytes ls)) _ _
+    on_cond (λ (done : Happened). Traced z (line_done z [] done) (lines_unless_halted (line_done z [] done) ls)) (nat_lt most_text_bytes (z.text + text_bytes ls)) _ _
     (λ _. record { world = refl; prints = refl }) (λ _. record { world = refl; prints = refl })
 
 -- ONE AFTER ANOTHER
@@ -126,7 +126,7 @@ each_traced event (n ∷ ns) z = next_traced z (by_event z (event n)) (each even
 
 -- what a settle prints that began with so many deliveries
 abbrev counted : ℕ → LineDone → List Line
-counted count done = unless_halted done (Settled (count + length done.trace) ∷ [])
+counted count done = lines_unless_halted done (Settled (count + length done.trace) ∷ [])
 
 ends_traced : (count : ℕ) (z : Session) → Traced z (by_lines z (Settled count ∷ [])) (counted count (by_lines z (Settled count ∷ [])))
 ends_traced count z =
@@ -141,7 +141,7 @@ settles_on : (count : ℕ) (z : Session) (done : LineDone) (next : Session → L
     → Traced done.after (next done.after) (counted (count + 1) (next done.after)) → Traced z (unless_halted done next) (counted count (unless_halted done next))
 settles_on count z done next t one rest =
     on_maybe (λ d. Traced z d (counted count d)) done.halt _ _
-    (λ none. subst (λ (n : ℕ). Traced z (then_trace done.trace (then_line done.lines (next done.after))) (unless_halted (next done.after) (Settled n ∷ [])))
+    (λ none. subst (λ (n : ℕ). Traced z (then_trace done.trace (then_line done.lines (next done.after))) (lines_unless_halted (next done.after) (Settled n ∷ [])))
     (sym (one_more count done.trace (next done.after).trace (one none)))
     (then_traced z done (next done.after) (counted (count + 1) (next done.after)) t rest))
     (λ h is. subst (λ (o : Option Halt). Traced z done (maybe o (Settled (count + length done.trace) ∷ []) (λ halt. []))) (sym is) t)
@@ -170,7 +170,7 @@ traced z (commands.Vanish t) = event_traced z (Vanish t)
 traced z (commands.Step n) = steps_traced n z
 traced z commands.Settle =
     let done : LineDone = settles most_events 0 z in
-    subst (λ (n : ℕ). Traced z done (unless_halted done (Settled n ∷ []))) (zero-add (length done.trace)) (settles_traced most_events 0 z)
+    subst (λ (n : ℕ). Traced z done (lines_unless_halted done (Settled n ∷ []))) (zero-add (length done.trace)) (settles_traced most_events 0 z)
 traced z (commands.Deliver ns) = each_traced Deliver ns z
 traced z (commands.Lose ns) = each_traced Lose ns z
 traced z (commands.Crash node) = event_traced z (Crash node)
