@@ -1,0 +1,6 @@
+-- What the contracts of this crate cite.
+pub mod Maps
+pub mod Gathers
+pub mod Places
+pub mod Takeovers
+pub mod Votes
