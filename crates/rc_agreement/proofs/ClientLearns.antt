@@ -109,11 +109,11 @@ module _ (c : Layout) (s : Scene) (t : ℕ) (inv : Agreeing c t s) (x : Client) 
   hears_learns (Decided u o) w = on_cond L (u == t) _ _ (λ _. on_cond L (is_over x.phase) _ _ (λ _. h) (λ _. learns_it x o h (subst (λ n. Learns s n o) (sym w.0) w.1))) (λ _. h)
   hears_learns _ w = h
 
-  pub client_learns : Heard s → (k : ClientCause) → DueFor s t x k → L (client_by_row cl t x k)
-  client_learns all (Hears m) due = hears_learns m (all.says _ due.1)
-  client_learns all (Reads k) due = alike_learns _ (read_alike cl t x k)
-  client_learns all (Writes k value) due = record { tally = h.tally; outcome = h.outcome }
-  client_learns all Commits due = alike_learns _ (commit_alike cl t x)
-  client_learns all (Cancels k) due = alike_learns _ (cancel_alike cl t x k)
-  client_learns all Retries due = alike_learns _ (retry_alike cl t x)
-  client_learns all Vanishes due = record { tally = h.tally; outcome = h.outcome }
+  pub causes_learn : Heard s → (k : ClientCause) → DueFor s t x k → L (client_by_row cl t x k)
+  causes_learn all (Hears m) due = hears_learns m (all.says _ due.1)
+  causes_learn all (Reads k) due = alike_learns _ (read_alike cl t x k)
+  causes_learn all (Writes k value) due = record { tally = h.tally; outcome = h.outcome }
+  causes_learn all Commits due = alike_learns _ (commit_alike cl t x)
+  causes_learn all (Cancels k) due = alike_learns _ (cancel_alike cl t x k)
+  causes_learn all Retries due = alike_learns _ (retry_alike cl t x)
+  causes_learn all Vanishes due = record { tally = h.tally; outcome = h.outcome }

@@ -36,7 +36,7 @@ use Rattle.rc_agreement.proofs.Sends.{to_none, says_to, in_sent}
 use Rattle.rc_agreement.proofs.Learning.{LearnsAll, FinishesAt, cut_finishes, Knows, Tells, mute_knows, none_tallied, Counts, Ended, Heard, Notes}
 use Rattle.rc_agreement.proofs.HonestRows.{Honest, act_honest, in_take, in_drop}
 use Rattle.rc_agreement.proofs.ShardNotes.{ShardNotes, shard_notes, finished_after, shard_replay_logged}
-use Rattle.rc_agreement.proofs.ClientLearns.{Learner, learner_of, client_learns}
+use Rattle.rc_agreement.proofs.ClientLearns.{Learner, learner_of, causes_learn}
 use Rattle.rc_agreement.proofs.Longer.{Longer, longer_moved, learns_on, knows_on, tallied_on, counts_on, ended_on}
 
 -- COORDINATORS
@@ -204,7 +204,7 @@ agreed_kept c lay =
         k.clients s u x a is due p.0,
         act_heard s u x (client_by_row s.parties.layout u x a) is
             (λ m to i. mute_knows s to m (client_mute s.parties.layout u x a (ready_for s u x a due) m (says_to (client_by_row s.parties.layout u x a).sends to m i)))
-            (client_learns c s u (p.0 u) x (learner_of s u x p.1 is) p.1 a due) p.1,
+            (causes_learn c s u (p.0 u) x (learner_of s u x p.1 is) p.1 a due) p.1,
       );
     }
 
