@@ -1,0 +1,8 @@
+-- Lemmas that several proofs share.
+mod ActFacts
+mod GatherActs
+mod GatherRows
+mod PostFacts
+mod PromiseFacts
+mod RowFacts
+mod ReplayFacts

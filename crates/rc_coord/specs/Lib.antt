@@ -1,0 +1,4 @@
+-- What the contracts of this crate cite.
+pub mod Replays
+pub mod Sites
+pub mod Rows

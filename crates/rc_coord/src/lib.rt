@@ -1,0 +1,16 @@
+//! The coordinator of a datacentre: its tables, its journal, and what it does at each message and command.
+#![tactic(auto)]
+
+mod accepting;
+mod asked;
+mod asking;
+mod home;
+mod laws;
+mod learning;
+mod posting;
+mod promising;
+mod proposing;
+mod tables;
+mod voting;
+
+pub use laws::coord_laws;
