@@ -2,6 +2,7 @@
 mod ActFacts
 mod GatherActs
 mod GatherRows
+mod PageRows
 mod PostFacts
 mod PromiseFacts
 mod RowFacts

@@ -111,3 +111,55 @@ fn repeat(
 {
     post_promise(home, tx, ballot, tables.acceptor.accepted.get(tx), out)
 }
+
+/// Promises the ballot, unless a higher one was promised, of a transaction that is not decided.
+fn ask_open<J: Journal>(
+    home: &Home,
+    store: &mut Store<J>,
+    tx: TxId,
+    ballot: Ballot,
+    out: &mut Outbox,
+) -> Result<(), NodeFault>
+    requires sound { (J.state store.old.journal).failed ≡ false }
+    requires fit { Fits home.now.cluster store.old.tables }
+    ensures fit { Fits home.now.cluster store.new.tables }
+    ensures ok { let old = site_of J.state store.old out.old in
+        OnOk result (Acts old (site_of J.state store.new out.new) (coord_does old.durable (asks_open home.now.cluster home.now.dc old.durable old.volatile tx ballot))) }
+    ensures err { let old = site_of J.state store.old out.old in
+        IfErr result (λ fault. Refuses fault (J.may_leave store.new.journal) old (site_of J.state store.new out.new) (coord_does old.durable (asks_open home.now.cluster home.now.dc old.durable old.volatile tx ballot))) }
+{
+    let promise = promise_for(&store.tables.acceptor.promises, tx);
+    if ballot < promise {
+        let to = owner(&home.cluster, ballot);
+        post_refusal(to, home.dc, tx, ballot, Reason::Promised(promise), out)?;
+        return Ok(());
+    }
+    if promise < ballot {
+        return raise(home, store, tx, ballot, out);
+    }
+    repeat(home, &store.tables, tx, ballot, out)?;
+    Ok(())
+}
+
+/// The row that asks for a promise: the ballot is promised, unless the transaction is decided or a higher one was promised.
+pub(crate) fn ask<J: Journal>(
+    home: &Home,
+    store: &mut Store<J>,
+    tx: TxId,
+    ballot: Ballot,
+    out: &mut Outbox,
+) -> Result<(), NodeFault>
+    requires sound { (J.state store.old.journal).failed ≡ false }
+    requires fit { Fits home.now.cluster store.old.tables }
+    ensures fit { Fits home.now.cluster store.new.tables }
+    ensures ok { let old = site_of J.state store.old out.old in
+        OnOk result (Acts old (site_of J.state store.new out.new) (coord_does old.durable (on_ask home.now.cluster home.now.dc old.durable old.volatile tx ballot))) }
+    ensures err { let old = site_of J.state store.old out.old in
+        IfErr result (λ fault. Refuses fault (J.may_leave store.new.journal) old (site_of J.state store.new out.new) (coord_does old.durable (on_ask home.now.cluster home.now.dc old.durable old.volatile tx ballot))) }
+{
+    if let Some(outcome) = store.tables.outcomes.get(tx) {
+        post_outcome(owner(&home.cluster, ballot), tx, outcome, out)?;
+        return Ok(());
+    }
+    ask_open(home, store, tx, ballot, out)
+}

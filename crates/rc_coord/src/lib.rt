@@ -4,9 +4,11 @@
 mod accepting;
 mod asked;
 mod asking;
+mod catching;
 mod home;
 mod laws;
 mod learning;
+mod pages;
 mod posting;
 mod promising;
 mod proposing;

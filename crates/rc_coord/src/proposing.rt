@@ -1,9 +1,9 @@
 // The row of a proposal.
-ghost use Rattle.std.specs.Prelude.{◌≡◌, ◌≤◌, false, OnOk, IfErr};
+ghost use Rattle.std.specs.Prelude.{◌≡◌, ◌≤◌, None, false, OnOk, IfErr};
 ghost use Rattle.std.specs.Option.{option_copied};
 ghost use Rattle.rc_body.specs.Bodies.{touched};
 ghost use Rattle.rc_body.specs.declared.decision.Decision.TheVariants.{Commit};
-ghost use Rattle.rc_record.specs.CoordState.{promise_of};
+ghost use Rattle.rc_record.specs.CoordState.{promise_of, outcome_of};
 ghost use Rattle.rc_protocol.specs.Coordinator.{accepted_at as accepted_in, gathers_on, on_propose, takes_proposal};
 ghost use Rattle.rc_node.specs.Acts.{Acts, Refuses, coord_does};
 ghost use Rattle.rc_coord_tables.specs.Gathers.{gather_of, asked_of};
@@ -115,4 +115,58 @@ fn take_proposal<J: Journal>(
         Decision::Commit(body) => take_commit(home, store, tx, ballot, body, out),
         Decision::Abort => accept(home, store, tx, ballot, decision, out),
     }
+}
+
+/// The same, of a transaction that is not decided.
+fn propose_open<J: Journal>(
+    home: &Home,
+    store: &mut Store<J>,
+    tx: TxId,
+    ballot: Ballot,
+    decision: &Decision,
+    out: &mut Outbox,
+) -> Result<(), NodeFault>
+    requires sound { (J.state store.old.journal).failed ≡ false }
+    requires open { outcome_of store.old.tables.outcomes.entries tx ≡ None }
+    requires fit { Fits home.now.cluster store.old.tables }
+    ensures fit { Fits home.now.cluster store.new.tables }
+    ensures ok { let old = site_of J.state store.old out.old in
+        OnOk result (Acts old (site_of J.state store.new out.new) (coord_does old.durable (on_propose home.now.cluster home.now.dc old.durable old.volatile tx ballot decision.now))) }
+    ensures err { let old = site_of J.state store.old out.old in
+        IfErr result (λ fault. Refuses fault (J.may_leave store.new.journal) old (site_of J.state store.new out.new) (coord_does old.durable (on_propose home.now.cluster home.now.dc old.durable old.volatile tx ballot decision.now))) }
+{
+    let promise = promise_for(&store.tables.acceptor.promises, tx);
+    if ballot < promise {
+        let to = proposer(&home.cluster, tx, ballot);
+        post_refusal(to, home.dc, tx, ballot, Reason::Promised(promise), out)?;
+        return Ok(());
+    }
+    match accepted_at(store.tables.acceptor.accepted.get(tx), ballot) {
+        Some(old) => Ok(post_vote(&home.cluster, home.dc, tx, ballot, old, out)?),
+        None => take_proposal(home, store, tx, ballot, decision, out),
+    }
+}
+
+/// The row of a proposal.
+pub(crate) fn propose<J: Journal>(
+    home: &Home,
+    store: &mut Store<J>,
+    tx: TxId,
+    ballot: Ballot,
+    decision: &Decision,
+    out: &mut Outbox,
+) -> Result<(), NodeFault>
+    requires sound { (J.state store.old.journal).failed ≡ false }
+    requires fit { Fits home.now.cluster store.old.tables }
+    ensures fit { Fits home.now.cluster store.new.tables }
+    ensures ok { let old = site_of J.state store.old out.old in
+        OnOk result (Acts old (site_of J.state store.new out.new) (coord_does old.durable (on_propose home.now.cluster home.now.dc old.durable old.volatile tx ballot decision.now))) }
+    ensures err { let old = site_of J.state store.old out.old in
+        IfErr result (λ fault. Refuses fault (J.may_leave store.new.journal) old (site_of J.state store.new out.new) (coord_does old.durable (on_propose home.now.cluster home.now.dc old.durable old.volatile tx ballot decision.now))) }
+{
+    if let Some(outcome) = store.tables.outcomes.get(tx) {
+        post_outcome(proposer(&home.cluster, tx, ballot), tx, outcome, out)?;
+        return Ok(());
+    }
+    propose_open(home, store, tx, ballot, decision, out)
 }
