@@ -18,7 +18,7 @@ use Rattle.rc_coord.proofs.ActFacts.{refuses-alike}
 use Rattle.rc_coord.proofs.GatherRows.{IsWaiting, row-is}
 
 abbrev pub with_gathers : CoordVolatile → Table ℕ GatherState → CoordVolatile
-with_gathers v table = record { gathers = table; takeovers = v.takeovers; votes = v.votes; places = v.places }
+with_gathers v table = record { gathers = table; takeovers = v.takeovers; votes = v.votes; cursors = v.cursors }
 
 -- the same site with these gathers
 abbrev pub gathering : Site CoordDurable CoordVolatile → Table ℕ GatherState → Site CoordDurable CoordVolatile

@@ -36,7 +36,7 @@ proposes-said c t b (reported d) None is = absurd cc
 proposes-said c t b (reported d) (Some o) is = cc
 
 abbrev with_takeovers : CoordVolatile → Table ℕ TakeoverState → CoordVolatile
-with_takeovers v table = record { gathers = v.gathers; takeovers = table; votes = v.votes; places = v.places }
+with_takeovers v table = record { gathers = v.gathers; takeovers = table; votes = v.votes; cursors = v.cursors }
 
 module _ (c : Layout) (s : CoordDurable) (v : CoordVolatile) (t b from : ℕ) (report : Option (ℕ × Decision)) (before after : Outbox) where
   abbrev old : View CoordDurable CoordVolatile

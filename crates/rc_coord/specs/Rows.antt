@@ -42,7 +42,7 @@ commit_in gathers t = maybe (found nat_cmp gathers t) Abort (λ g. Commit g.body
 
 -- a volatile state of which only the places matter
 abbrev pub only_placed : Table ℕ ℕ → CoordVolatile
-only_placed places = record { gathers = []; takeovers = []; votes = []; places = places }
+only_placed places = record { gathers = []; takeovers = []; votes = []; cursors = places }
 
 -- the page from a place on is asked for, if there is one
 abbrev pub asks_at : ℕ → Option ℕ → Posts

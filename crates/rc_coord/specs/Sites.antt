@@ -14,7 +14,7 @@ abbrev pub durable_of : Tables → CoordDurable
 durable_of tables = record { promises = tables.acceptor.promises.table; accepted = tables.acceptor.accepted.table; outcomes = tables.outcomes.entries }
 
 abbrev pub volatile_of : Tables → CoordVolatile
-volatile_of tables = record { gathers = tables.gathers.table; takeovers = tables.takeovers.table; votes = tables.votes.table; places = tables.places.table }
+volatile_of tables = record { gathers = tables.gathers.table; takeovers = tables.takeovers.table; votes = tables.votes.table; cursors = tables.places.table }
 
 abbrev pub view_of : Tables → Outbox → View CoordDurable CoordVolatile
 view_of tables out = record { durable = durable_of tables; volatile = volatile_of tables; out = out }
