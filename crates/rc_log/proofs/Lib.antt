@@ -7,3 +7,4 @@ pub mod Stops
 pub mod Runs
 pub mod Begin
 pub mod Opened
+pub mod Powers

@@ -1,10 +1,10 @@
 -- What a journal is to its callers, and how its calls change it.
-use Rattle.std.specs.Prelude.{ℕ, ◌≡◌, ◌+◌, ◌-◌, ◌≤◌, nat_lt, Bool, true, false, if◌then◌else◌, List, [], ◌∷◌, ◌++◌, length, take, drop, Option, None, Some, IfSome}
+use Rattle.std.specs.Prelude.{ℕ, ◌≡◌, ◌+◌, ◌-◌, ◌≤◌, nat_lt, Bool, true, false, if◌then◌else◌, List, [], ◌∷◌, ◌++◌, length, take, drop, Option, None, Some, IfSome, IsTrue}
 use Rattle.std.specs.Option.{option_map}
 use Rattle.rc_ports.specs.Causes.{Rose}
 use Rattle.rc_disk.specs.declared.power.Power.{Power}
 use Rattle.rc_disk.specs.declared.power.Power.TheVariants.{Armed}
-use Rattle.rc_disk.specs.Calls.{Told, Writes, effect, armed}
+use Rattle.rc_disk.specs.Calls.{Told, Writes, effect, armed, is_on}
 use Rattle.rc_log.specs.Records.{size_of, behind_gate}
 use Rattle.rc_log.specs.Append.{listed, append_calls, all_done, numbers_of, counted_by, power_past, AreStill, FailedAt, LeavesEither}
 
@@ -32,7 +32,7 @@ passes (Some limit) len = nat_lt limit len
 abbrev pub would_pass_limit : State → ℕ → Bool
 would_pass_limit s n = passes s.limit (s.size + 6 + n)
 
--- an append that was done
+-- an append that was done: the power held at each of its calls
 pub record Appends (old new : State) (r : List ℕ) : Type 0 where
   pub adds : new.records ≡ option_map (λ rs. rs ++ r ∷ []) old.records
   pub in_hand : new.in_hand ≡ None
@@ -44,6 +44,7 @@ pub record Appends (old new : State) (r : List ℕ) : Type 0 where
   pub calls : new.told ≡ option_map (all_done (append_calls old.size r)) old.told
   pub numbers : numbers_of new.told ≡ option_map (counted_by 4) (numbers_of old.told)
   pub power_is : new.power ≡ option_map (power_past 4) old.power
+  pub on : IfSome new.power (λ p. IsTrue (is_on p))
   pub same_counts : AreStill old.faults new.faults old.cuts new.cuts
 
 -- an append that the disk failed: the log holds the record or not

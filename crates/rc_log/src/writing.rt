@@ -1,8 +1,8 @@
 // The device calls of a log.
-ghost use Rattle.std.specs.Prelude.{◌≡◌, ◌+◌, ◌<◌, ◌≤◌, ◌^◌, ◌++◌, ℕ, List, [], ◌∷◌, length, vec_capacity, OnOk, OnErr, IfErr, Some, is_some};
+ghost use Rattle.std.specs.Prelude.{◌≡◌, ◌+◌, ◌<◌, ◌≤◌, ◌^◌, ◌++◌, ℕ, List, [], ◌∷◌, length, vec_capacity, OnOk, OnErr, IfErr, Some, is_some, IsTrue};
 ghost use Rattle.std.specs.Option.{option_map};
 ghost use Rattle.rc_ports.specs.Causes.{HasCause};
-ghost use Rattle.rc_disk.specs.Calls.{Writes, effect};
+ghost use Rattle.rc_disk.specs.Calls.{Writes, effect, is_on};
 ghost use Rattle.rc_disk.specs.Counts.{HasCuts};
 ghost use Rattle.rc_disk.specs.Crashes.{AtEachMoment};
 ghost use Rattle.rc_log.specs.Records.{behind_gate};
@@ -53,6 +53,7 @@ pub fn append_at<D: Disk>(
     ensures content { OnOk result (D.content disk.new ≡ option_map (effect (Writes place (1 ∷ []))) (option_map (effect (Writes (place + 1) (behind_gate bytes.now))) (D.content disk.old))) }
     ensures told { OnOk result (D.told disk.new ≡ option_map (all_done (append_calls place bytes.now)) (D.told disk.old)) }
     ensures power { OnOk result (D.power disk.new ≡ power_past 4 (D.power disk.old)) }
+    ensures on { OnOk result (IsTrue (is_on (D.power disk.new))) }
     ensures counts { OnOk result (AreStill (D.faults disk.old) (D.faults disk.new) (D.cuts disk.old) (D.cuts disk.new)) }
 
     // One failed.

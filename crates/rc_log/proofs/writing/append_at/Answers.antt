@@ -1,10 +1,12 @@
 -- What stands after each way that the four calls of an append may go.
-use Rattle.std.proofs.Common.{◌≡◌, ℕ, ◌+◌, true, false, List, [], ◌∷◌, length, Option, option_map, ◌∙◌, ap, sym, subst, arith}
-use Rattle.rc_disk.specs.Calls.{Writes, effect, after, power_after}
+use Rattle.std.proofs.Common.{◌≡◌, ℕ, ◌+◌, true, false, List, [], ◌∷◌, length, Option, option_map, IsTrue, ◌∙◌, ap, sym, subst, arith}
+use Rattle.rc_disk.specs.Calls.{Writes, effect, after, power_after, is_on}
+use Rattle.rc_disk.specs.declared.power.Power.{Power}
 use Rattle.rc_disk.specs.Crashes.{IsDurable}
 use Rattle.rc_log.specs.Records.{behind_gate}
 use Rattle.rc_log.proofs.Stops.{fails1, fails2, fails3, fails4, still_next, still_one, whole_run, nothing_pending, grew}
 use Rattle.rc_log.proofs.Frames.{length-behind_gate}
+use Rattle.rc_log.proofs.Powers.{held}
 use Rattle.rc_log.proofs.Runs.{on_err, crash1, crash2, crash3, crash4, run0, run1, run2, run3, run4}
 use Rattle.rc_log.proofs.writing.append_at.Goals as goal
 
@@ -202,6 +204,10 @@ returns-clause-told g c =
 pub returns-clause-power : goal.returns-clause-power
 returns-clause-power g c =
     c.sync-2.ensures.power ∙ ap power_after (c.write_at-2.ensures.power ∙ ap power_after (c.sync.ensures.power ∙ ap power_after c.write_at.ensures.power))
+
+pub returns-clause-on : goal.returns-clause-on
+returns-clause-on g c =
+    subst (λ (p : Power). IsTrue (is_on p)) (λ i. sym c.sync-2.ensures.power i) (held (g.D.Disk.power c.write_at-2.new.self) c.in_ok-sync-2.ensures.on)
 
 pub returns-clause-counts : goal.returns-clause-counts
 returns-clause-counts g c =
