@@ -1,12 +1,12 @@
 -- What an append leaves of a disk that tells its calls.
-use Rattle.std.proofs.Common.{◌≡◌, ℕ, ◌+◌, ◌^◌, ◌<◌, ◌≤◌, ◌==◌, ◌||◌, Bool, true, false, if◌then◌else◌, List, [], ◌∷◌, ◌++◌, length, drop, Option, None, Some, option_map, IfSome, Ok, refl, sym, ap, ◌∙◌, subst, arith}
+use Rattle.std.proofs.Common.{◌≡◌, ℕ, ◌+◌, ◌-◌, ◌^◌, ◌<◌, ◌≤◌, ◌==◌, ◌||◌, Bool, true, false, if◌then◌else◌, List, [], ◌∷◌, ◌++◌, length, drop, Option, None, Some, option_map, IfSome, IsTrue, Ok, refl, sym, ap, ◌∙◌, subst, arith}
 use Rattle.std.specs.Option.{ForSome}
 use Rattle.std.proofs.lemmas.Bool.Decides.{nat_tests}
 use Rattle.std.proofs.lemmas.List.Sums.{sum_by-append}
 use Rattle.rc_disk.specs.declared.power.Power.{Power}
 use Rattle.rc_disk.specs.declared.power.Cause.{Cause}
 use Rattle.rc_disk.specs.declared.power.Cause.TheVariants.{ByList, ByCut, WhileOff}
-use Rattle.rc_disk.specs.Calls.{Told, Images, Numbers, Call, Writes, Syncs, effect, filled, image, made, all_synced, read_bytes, images_failed, after_done, after, cause_at, power_after}
+use Rattle.rc_disk.specs.Calls.{Told, Images, Numbers, Call, Writes, Syncs, effect, filled, image, made, all_synced, read_bytes, images_failed, after_done, after, cause_at, power_after, is_on}
 use Rattle.rc_disk.specs.Counts.{AreCounted}
 use Rattle.rc_log.specs.Records.{records, size_of, behind_gate}
 use Rattle.rc_log.specs.Append.{listed, listed_in, IsSettled, FailedAt, AreStill, append_calls, all_done, stopped_at, numbers_of, counted_by, stopped_by, power_past, cause_of_call, keeps, with_or_without}
@@ -97,25 +97,26 @@ still_one c f f' k k' done = record { same_faults = done.all_faults; same_cuts =
 
 -- a call fails
 stop : (content : Option (List ℕ)) (ml : List ℕ → Type 0) (before now : Option Told) (len place : ℕ) (r : List ℕ) (n f f' k k' : ℕ) (p p' : Power) (cause_of : Power → Cause)
-    → IfSome before (λ t. t.power ≡ p) → AreCounted (cause_of p) false f f' k k' → cause_of_call n p ≡ cause_of p → p' ≡ power_past n p
+    → IfSome before (λ t. t.power ≡ p) → AreCounted (cause_of p) false f f' k k' → cause_of_call n p ≡ cause_of p → (1 < n → IsTrue (is_on (power_past (n - 1) p))) → p' ≡ power_past n p
     → IsSettled content ml before len place → IfSome before (λ t. content ≡ Some (read_bytes t)) → 1 ≤ n → n ≤ 4
     → now ≡ option_map (stopped_at n (append_calls place r)) before
     → ((t : Told) → (stopped_at n (append_calls place r) t).numbers ≡ stopped_by n (cause_of t.power) t.numbers)
     → ((c : List ℕ) → records c ≡ Ok (listed c) → place ≡ size_of (listed c) → (t : Told) → t.images ≡ all_synced c → records (read_bytes (stopped_at n (append_calls place r) t)) ≡ Ok (with_or_without (keeps n (cause_of t.power)) (listed c) r))
     → FailedAt before now (Some p) (Some p') (option_map listed content) place r f f' k k'
-stop content ml None now len place r n f f' k k' p p' cause_of told_power counts reason past s law low high is numbers kept = record {
+stop content ml None now len place r n f f' k k' p p' cause_of told_power counts reason held past s law low high is numbers kept = record {
   call = n;
   cause = cause_of p;
   low = low;
   high = high;
   reason = ap Some reason;
+  held = held;
   power_is = ap Some past;
   whole_state = is;
   counts = counts;
   numbers = ap numbers_of is;
   kept = subst (λ (o : Option Told). IfSome o (λ t. IfSome (option_map listed content) (λ rs. records (read_bytes t) ≡ Ok (with_or_without (keeps n (cause_of p)) rs r)))) (sym is) tt;
 }
-stop content ml (Some t) now len place r n f f' k k' p p' cause_of told_power counts reason past s law low high is numbers kept =
+stop content ml (Some t) now len place r n f f' k k' p p' cause_of told_power counts reason held past s law low high is numbers kept =
     let c = t.images.plain in
     let whole : records c ≡ Ok (listed c) = s.whole c law in
     let at : place ≡ size_of (listed c) = s.place_is c law in
@@ -127,6 +128,7 @@ stop content ml (Some t) now len place r n f f' k k' p p' cause_of told_power co
       low = low;
       high = high;
       reason = ap Some reason;
+      held = held;
       power_is = ap Some past;
       whole_state = is;
       counts = counts;
@@ -154,39 +156,39 @@ module _ (content : Option (List ℕ)) (ml : List ℕ → Type 0) (before now : 
 
   pub fails1 : Went false write before now p p' f f' k k' → Fails
   unfolding with_calls
-  fails1 one = stop content ml before now len place r 1 f f' k k' p p' cause_at told_power one.counts refl one.power s law (omega arith) (omega arith) one.told
+  fails1 one = stop content ml before now len place r 1 f f' k k' p p' cause_at told_power one.counts refl (λ late. absurd (omega (arith, late))) one.power s law (omega arith) (omega arith) one.told
       (λ t. counted_as (t.numbers.calls + 1) 1 (cause_at t.power) t.numbers refl)
       (λ c whole at t im. ap (λ (i : Images). records (images_failed (cause_at t.power) write i).plain) im ∙ kept1 c (listed c) r place whole at short (cause_at t.power))
 
-  pub fails2 : (o1 : Option Told) (p1 : Power) (f1 k1 : ℕ) → Went true write before o1 p p1 f f1 k k1 → Went false Syncs o1 now p1 p' f1 f' k1 k' → Fails
+  pub fails2 : (o1 : Option Told) (p1 : Power) (f1 k1 : ℕ) → Went true write before o1 p p1 f f1 k k1 → Went false Syncs o1 now p1 p' f1 f' k1 k' → IsTrue (is_on p1) → Fails
   unfolding with_calls
-  fails2 o1 p1 f1 k1 one two = stop content ml before now len place r 2 f f' k k' p p' (λ q. cause_at (power_after q)) told_power
+  fails2 o1 p1 f1 k1 one two on = stop content ml before now len place r 2 f f' k k' p p' (λ q. cause_at (power_after q)) told_power
       (count_next _ _ f f1 f' k k1 k' one.counts (subst (λ (q : Power). AreCounted (cause_at q) false f1 f' k1 k') one.power two.counts))
-      refl (two.power ∙ ap power_after one.power) s law (omega arith) (omega arith)
+      refl (λ late. subst (λ (q : Power). IsTrue (is_on q)) one.power on) (two.power ∙ ap power_after one.power) s law (omega arith) (omega arith)
       (two.told ∙ ap (option_map (after Syncs false)) one.told ∙ fuse _ _ before)
       (λ t. counted_as (t.numbers.calls + 1 + 1) 2 (cause_at (power_after t.power)) t.numbers (omega arith))
       (λ c whole at t im. ap (λ (i : Images). records (images_failed (cause_at (power_after t.power)) Syncs (made write i)).plain) im ∙ kept2 c (listed c) r place whole at short (cause_at (power_after t.power)))
 
-  pub fails3 : (o1 o2 : Option Told) (p1 p2 : Power) (f1 f2 k1 k2 : ℕ) → Went true write before o1 p p1 f f1 k k1 → Went true Syncs o1 o2 p1 p2 f1 f2 k1 k2 → Went false open_gate o2 now p2 p' f2 f' k2 k' → Fails
+  pub fails3 : (o1 o2 : Option Told) (p1 p2 : Power) (f1 f2 k1 k2 : ℕ) → Went true write before o1 p p1 f f1 k k1 → Went true Syncs o1 o2 p1 p2 f1 f2 k1 k2 → Went false open_gate o2 now p2 p' f2 f' k2 k' → IsTrue (is_on p2) → Fails
   unfolding with_calls
-  fails3 o1 o2 p1 p2 f1 f2 k1 k2 one two three =
+  fails3 o1 o2 p1 p2 f1 f2 k1 k2 one two three on =
       let past2 : p2 ≡ power_after (power_after p) = two.power ∙ ap power_after one.power in
       stop content ml before now len place r 3 f f' k k' p p' (λ q. cause_at (power_after (power_after q))) told_power
       (count_next _ _ f f1 f' k k1 k' one.counts (count_next _ _ f1 f2 f' k1 k2 k' two.counts (subst (λ (q : Power). AreCounted (cause_at q) false f2 f' k2 k') past2 three.counts)))
-      refl (three.power ∙ ap power_after past2) s law (omega arith) (omega arith)
+      refl (λ late. subst (λ (q : Power). IsTrue (is_on q)) past2 on) (three.power ∙ ap power_after past2) s law (omega arith) (omega arith)
       (three.told ∙ ap (option_map (after open_gate false)) (two.told ∙ ap (option_map (after Syncs true)) one.told ∙ fuse _ _ before) ∙ fuse _ _ before)
       (λ t. counted_as (t.numbers.calls + 1 + 1 + 1) 3 (cause_at (power_after (power_after t.power))) t.numbers (omega arith))
       (λ c whole at t im. ap (λ (i : Images). records (images_failed (cause_at (power_after (power_after t.power))) open_gate (all_synced (made write i).plain)).plain) im
       ∙ kept3 c (listed c) r place whole at short (cause_at (power_after (power_after t.power))))
 
   pub fails4 : (o1 o2 o3 : Option Told) (p1 p2 p3 : Power) (f1 f2 f3 k1 k2 k3 : ℕ) → Went true write before o1 p p1 f f1 k k1 → Went true Syncs o1 o2 p1 p2 f1 f2 k1 k2 → Went true open_gate o2 o3 p2 p3 f2 f3 k2 k3
-      → Went false Syncs o3 now p3 p' f3 f' k3 k' → Fails
+      → Went false Syncs o3 now p3 p' f3 f' k3 k' → IsTrue (is_on p3) → Fails
   unfolding with_calls
-  fails4 o1 o2 o3 p1 p2 p3 f1 f2 f3 k1 k2 k3 one two three four =
+  fails4 o1 o2 o3 p1 p2 p3 f1 f2 f3 k1 k2 k3 one two three four on =
       let past3 : p3 ≡ power_after (power_after (power_after p)) = three.power ∙ ap power_after (two.power ∙ ap power_after one.power) in
       stop content ml before now len place r 4 f f' k k' p p' (λ q. cause_at (power_after (power_after (power_after q)))) told_power
       (count_next _ _ f f1 f' k k1 k' one.counts (count_next _ _ f1 f2 f' k1 k2 k' two.counts (count_next _ _ f2 f3 f' k2 k3 k' three.counts (subst (λ (q : Power). AreCounted (cause_at q) false f3 f' k3 k') past3 four.counts))))
-      refl (four.power ∙ ap power_after past3) s law (omega arith) (omega arith)
+      refl (λ late. subst (λ (q : Power). IsTrue (is_on q)) past3 on) (four.power ∙ ap power_after past3) s law (omega arith) (omega arith)
       (four.told ∙ ap (option_map (after Syncs false)) (three.told ∙ ap (option_map (after open_gate true)) (two.told ∙ ap (option_map (after Syncs true)) one.told ∙ fuse _ _ before) ∙ fuse _ _ before) ∙ fuse _ _ before)
       (λ t. counted_as (t.numbers.calls + 1 + 1 + 1 + 1) 4 (cause_at (power_after (power_after (power_after t.power)))) t.numbers (omega arith))
       (λ c whole at t im. ap (λ (i : Images). records (images_failed (cause_at (power_after (power_after (power_after t.power)))) Syncs (made open_gate (all_synced (made write i).plain))).plain) im

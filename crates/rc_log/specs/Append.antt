@@ -1,10 +1,10 @@
 -- What the calls of a log make of its disk.
-use Rattle.std.specs.Prelude.{ℕ, zero, suc, ◌≡◌, ◌⊎◌, ◌+◌, ◌-◌, ◌≤◌, ◌==◌, ◌&&◌, ◌||◌, nat_le, Bool, false, if◌then◌else◌, List, [], ◌∷◌, ◌++◌, Option, Some, IfSome, Ok, Err, Result}
+use Rattle.std.specs.Prelude.{ℕ, zero, suc, ◌≡◌, ◌⊎◌, ◌+◌, ◌-◌, ◌<◌, ◌≤◌, ◌==◌, ◌&&◌, ◌||◌, nat_le, Bool, false, if◌then◌else◌, List, [], ◌∷◌, ◌++◌, Option, Some, IfSome, IsTrue, Ok, Err, Result}
 use Rattle.std.specs.Option.{option_map, ForSome}
 use Rattle.rc_disk.specs.declared.power.Power.{Power}
 use Rattle.rc_disk.specs.declared.power.Cause.{Cause}
 use Rattle.rc_disk.specs.declared.power.Cause.TheVariants.{ByList, ByCut, WhileOff}
-use Rattle.rc_disk.specs.Calls.{Told, Numbers, Call, Writes, Syncs, read_bytes, all_synced, after_done, after_failed, power_after, cause_at}
+use Rattle.rc_disk.specs.Calls.{Told, Numbers, Call, Writes, Syncs, read_bytes, all_synced, after_done, after_failed, power_after, cause_at, is_on}
 use Rattle.rc_disk.specs.Counts.{AreCounted}
 use Rattle.rc_disk.specs.Crashes.{IsDurable}
 use Rattle.rc_log.specs.Records.{records, size_of, behind_gate}
@@ -97,13 +97,14 @@ pub record AreStill (faults faults_now cuts cuts_now : ℕ) : Type 0 where
   pub same_faults : faults_now ≡ faults
   pub same_cuts : cuts_now ≡ cuts
 
--- a call of an append at the place failed
+-- a call of an append at the place failed, and the power held at those before it
 pub record FailedAt (before now : Option Told) (power power_now : Option Power) (old : Option (List (List ℕ))) (place : ℕ) (r : List ℕ) (faults faults_now cuts cuts_now : ℕ) : Type 0 where
   pub call : ℕ
   pub cause : Cause
   pub low : 1 ≤ call
   pub high : call ≤ 4
   pub reason : option_map (cause_of_call call) power ≡ Some cause
+  pub held : IfSome power (λ p. 1 < call → IsTrue (is_on (power_past (call - 1) p)))
   pub power_is : power_now ≡ option_map (power_past call) power
   pub whole_state : now ≡ option_map (stopped_at call (append_calls place r)) before
   pub counts : AreCounted cause false faults faults_now cuts cuts_now

@@ -1,12 +1,11 @@
 -- What stands after each way that the four calls of an append may go.
-use Rattle.std.proofs.Common.{◌≡◌, ℕ, ◌+◌, true, false, List, [], ◌∷◌, length, Option, option_map, IsTrue, ◌∙◌, ap, sym, subst, arith}
-use Rattle.rc_disk.specs.Calls.{Writes, effect, after, power_after, is_on}
-use Rattle.rc_disk.specs.declared.power.Power.{Power}
+use Rattle.std.proofs.Common.{◌≡◌, ℕ, ◌+◌, true, false, List, [], ◌∷◌, length, Option, option_map, ◌∙◌, ap, sym, subst, arith}
+use Rattle.rc_disk.specs.Calls.{Writes, effect, after, power_after}
 use Rattle.rc_disk.specs.Crashes.{IsDurable}
 use Rattle.rc_log.specs.Records.{behind_gate}
 use Rattle.rc_log.proofs.Stops.{fails1, fails2, fails3, fails4, still_next, still_one, whole_run, nothing_pending, grew}
 use Rattle.rc_log.proofs.Frames.{length-behind_gate}
-use Rattle.rc_log.proofs.Powers.{held}
+use Rattle.rc_log.proofs.Powers.{on_after}
 use Rattle.rc_log.proofs.Runs.{on_err, crash1, crash2, crash3, crash4, run0, run1, run2, run3, run4}
 use Rattle.rc_log.proofs.writing.append_at.Goals as goal
 
@@ -52,7 +51,8 @@ returns-in_err-sync-clause-failed g c =
     (fails2 (g.D.Disk.content c.args.disk.now) (g.D.Disk.may_leave c.args.disk.now) (g.D.Disk.told c.args.disk.now) (g.D.Disk.told c.sync.new.self) (g.D.Disk.length_of c.args.disk.now) place r s (g.met.D.Disk.told_content c.args.disk.now) (omega arith) (g.D.Disk.power c.args.disk.now) (g.D.Disk.power c.sync.new.self) (g.met.D.Disk.told_power c.args.disk.now) (g.D.Disk.faults c.args.disk.now) (g.D.Disk.faults c.sync.new.self) (g.D.Disk.cuts c.args.disk.now) (g.D.Disk.cuts c.sync.new.self)
     (g.D.Disk.told c.write_at.new.self) (g.D.Disk.power c.write_at.new.self) (g.D.Disk.faults c.write_at.new.self) (g.D.Disk.cuts c.write_at.new.self)
     (record { told = c.in_ok-write_at.ensures.told ∙ ap (λ (b : List ℕ). option_map (after (Writes (place + 1) b) true) (g.D.Disk.told c.args.disk.now)) frame; power = c.write_at.ensures.power; counts = c.in_ok-write_at.ensures.counts })
-    (record { told = c.in_err-sync.ensures.told; power = c.sync.ensures.power; counts = c.in_err-sync.ensures.counts }))
+    (record { told = c.in_err-sync.ensures.told; power = c.sync.ensures.power; counts = c.in_err-sync.ensures.counts })
+    (on_after (g.D.Disk.power c.args.disk.now) (g.D.Disk.power c.write_at.new.self) c.write_at.ensures.power c.in_ok-write_at.ensures.on))
 
 pub returns-in_err-sync-clause-crash : goal.returns-in_err-sync-clause-crash
 returns-in_err-sync-clause-crash g c =
@@ -87,7 +87,8 @@ returns-in_err-write_at-2-clause-failed g c =
     (g.D.Disk.told c.write_at.new.self) (g.D.Disk.told c.sync.new.self) (g.D.Disk.power c.write_at.new.self) (g.D.Disk.power c.sync.new.self) (g.D.Disk.faults c.write_at.new.self) (g.D.Disk.faults c.sync.new.self) (g.D.Disk.cuts c.write_at.new.self) (g.D.Disk.cuts c.sync.new.self)
     (record { told = c.in_ok-write_at.ensures.told ∙ ap (λ (b : List ℕ). option_map (after (Writes (place + 1) b) true) (g.D.Disk.told c.args.disk.now)) frame; power = c.write_at.ensures.power; counts = c.in_ok-write_at.ensures.counts })
     (record { told = c.in_ok-sync.ensures.told; power = c.sync.ensures.power; counts = c.in_ok-sync.ensures.counts })
-    (record { told = c.in_err-write_at-2.ensures.told; power = c.write_at-2.ensures.power; counts = c.in_err-write_at-2.ensures.counts }))
+    (record { told = c.in_err-write_at-2.ensures.told; power = c.write_at-2.ensures.power; counts = c.in_err-write_at-2.ensures.counts })
+    (on_after (g.D.Disk.power c.write_at.new.self) (g.D.Disk.power c.sync.new.self) c.sync.ensures.power c.in_ok-sync.ensures.on))
 
 pub returns-in_err-write_at-2-clause-crash : goal.returns-in_err-write_at-2-clause-crash
 returns-in_err-write_at-2-clause-crash g c =
@@ -124,7 +125,8 @@ returns-in_err-sync-2-clause-failed g c =
     (record { told = c.in_ok-write_at.ensures.told ∙ ap (λ (b : List ℕ). option_map (after (Writes (place + 1) b) true) (g.D.Disk.told c.args.disk.now)) frame; power = c.write_at.ensures.power; counts = c.in_ok-write_at.ensures.counts })
     (record { told = c.in_ok-sync.ensures.told; power = c.sync.ensures.power; counts = c.in_ok-sync.ensures.counts })
     (record { told = c.in_ok-write_at-2.ensures.told; power = c.write_at-2.ensures.power; counts = c.in_ok-write_at-2.ensures.counts })
-    (record { told = c.in_err-sync-2.ensures.told; power = c.sync-2.ensures.power; counts = c.in_err-sync-2.ensures.counts }))
+    (record { told = c.in_err-sync-2.ensures.told; power = c.sync-2.ensures.power; counts = c.in_err-sync-2.ensures.counts })
+    (on_after (g.D.Disk.power c.sync.new.self) (g.D.Disk.power c.write_at-2.new.self) c.write_at-2.ensures.power c.in_ok-write_at-2.ensures.on))
 
 pub returns-in_err-sync-2-clause-crash : goal.returns-in_err-sync-2-clause-crash
 returns-in_err-sync-2-clause-crash g c =
@@ -206,8 +208,7 @@ returns-clause-power g c =
     c.sync-2.ensures.power ∙ ap power_after (c.write_at-2.ensures.power ∙ ap power_after (c.sync.ensures.power ∙ ap power_after c.write_at.ensures.power))
 
 pub returns-clause-on : goal.returns-clause-on
-returns-clause-on g c =
-    subst (λ (p : Power). IsTrue (is_on p)) (λ i. sym c.sync-2.ensures.power i) (held (g.D.Disk.power c.write_at-2.new.self) c.in_ok-sync-2.ensures.on)
+returns-clause-on g c = on_after (g.D.Disk.power c.write_at-2.new.self) (g.D.Disk.power c.sync-2.new.self) c.sync-2.ensures.power c.in_ok-sync-2.ensures.on
 
 pub returns-clause-counts : goal.returns-clause-counts
 returns-clause-counts g c =
