@@ -1,0 +1,25 @@
+-- Lemmas on calm scripts.
+pub mod Queue
+pub mod Settles
+pub mod Logs
+pub mod Disks
+pub mod Unreads
+pub mod Touching
+pub mod Counts
+pub mod Room
+pub mod Rested
+pub mod Commands
+pub mod Layouts
+pub mod Frames
+pub mod Versions
+pub mod Clients
+pub mod Touches
+pub mod Between
+pub mod Costs
+pub mod OneEvents
+pub mod FreshReads
+pub mod CommitLines
+pub mod ScriptFacts
+pub mod Starting
+pub mod Playing
+pub mod Played

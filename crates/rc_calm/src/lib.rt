@@ -1,0 +1,2 @@
+//! Calm scripts.
+#![tactic(auto)]
