@@ -9,7 +9,7 @@ use Rattle.rc_ids.specs.Cluster.{Layout}
 use Rattle.rc_body.specs.declared.entry.Entry.{Entry}
 use Rattle.rc_msg.specs.declared.msg.Envelope.{Envelope}
 use Rattle.rc_report.specs.declared.line.Line.{Line}
-use Rattle.rc_record.specs.ShardState.{version_at}
+use Rattle.rc_record.specs.ShardState.{version_at, value_at}
 use Rattle.rc_serial.specs.OneMap.{Map}
 use Rattle.rc_protocol.specs.Client.{Client, Open}
 use Rattle.rc_protocol.specs.Coordinator.{new_volatile}
@@ -25,6 +25,7 @@ use Rattle.rc_calm_batches.proofs.Stages.{AtRest, Shards}
 use Rattle.rc_calm_batches.proofs.Coords.{Coords, CoordIs}
 use Rattle.rc_calm_batches.proofs.ReadTurns.{found_set}
 use Rattle.rc_calm.proofs.Queue.{Queued}
+use Rattle.rc_calm.proofs.Frames.{Short}
 use Rattle.rc_calm.proofs.Logs.{Fit, HasRoom}
 use Rattle.rc_calm.proofs.Room.{short, coords_room, shards_room}
 use Rattle.rc_calm.proofs.Rested.{Complete}
@@ -43,6 +44,8 @@ pub record Sane (m : Calm) (begun : List ℕ) (last : Option ℕ) (is_over : Boo
   pub running : is_over ≡ false → (In m.tx m.committed → ⊥) × (last ≡ Some m.tx) × In m.tx begun
   pub none : is_over ≡ true → m.touched ≡ []
   pub versions : (k : List ℕ) → version_at m.rows k ≤ length m.committed
+  pub values : (k : List ℕ) → Short (value_at m.rows k)
+  pub numbers : (u : ℕ) → In u begun → u ≤ 4294967295
   pub due : m.due ≡ 0
 
 -- THE PARTIES

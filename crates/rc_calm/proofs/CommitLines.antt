@@ -44,7 +44,7 @@ use Rattle.rc_calm_batches.proofs.CommitWhole.{CommitOver, Rested, count as comm
 use Rattle.rc_calm.proofs.Room.{SameSizes, drains_sizes}
 use Rattle.rc_calm.proofs.Layouts.{layout_least, layout_shard}
 use Rattle.rc_calm.proofs.Frames.{ready_is, entry_length}
-use Rattle.rc_calm.proofs.Versions.{none_worn, version_rises}
+use Rattle.rc_calm.proofs.Versions.{none_worn, version_rises, values_short}
 use Rattle.rc_calm.proofs.Unreads.{commit_asks, commit_proposes, unread_once, unread_slot, unread_of}
 use Rattle.rc_calm.proofs.Touching.{slots_from, body_from, slots_once, slots_calm, body_is, body_fits, body_touches, in_body, applied_written}
 use Rattle.rc_calm.proofs.Touches.{keys_of, in_keys}
@@ -184,6 +184,8 @@ module _ (c : Layout) (is_layout : IsLayout c) (m : Calm) (begun : List ℕ) (la
     running = λ e. absurd (cc);
     none = λ e. refl;
     versions = λ k. let a = version_rises m.rows m.touched k h.sane.once in let b = h.sane.versions k in let l = length_both m.committed (m.tx ∷ []) in omega (arith, a, b, l);
+    values = values_short m.rows m.touched h.sane.values h.sane.ranges;
+    numbers = h.sane.numbers;
     due = refl;
   }
 

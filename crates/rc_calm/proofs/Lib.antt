@@ -23,3 +23,5 @@ pub mod ScriptFacts
 pub mod Starting
 pub mod Playing
 pub mod Played
+pub mod Allowances
+pub mod Texts

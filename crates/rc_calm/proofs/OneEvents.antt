@@ -54,6 +54,8 @@ sane_touched m begun last touched due h once used few ranges zero = record {
   running = h.running;
   none = λ e. absurd (cc);
   versions = h.versions;
+  values = h.values;
+  numbers = h.numbers;
   due = zero;
 }
 
@@ -86,7 +88,7 @@ module _ (c : Layout) (m : Calm) (begun : List ℕ) (last : Option ℕ) (z : Ses
   no_keys : keys_of m.touched ≡ []
   no_keys = ap keys_of (h.sane.none refl)
 
-  module _ (t : ℕ) (fresh : In t begun → ⊥) where
+  module _ (t : ℕ) (fresh : In t begun → ⊥) (low : t ≤ 4294967295) where
     unknown : found nat_cmp z.world.parties.clients t ≡ None
     unknown = h.parties.unknown t fresh
 
@@ -117,6 +119,8 @@ module _ (c : Layout) (m : Calm) (begun : List ℕ) (last : Option ℕ) (z : Ses
       running = λ _. ((λ i. fresh (h.sane.were_begun t i)), refl, inl refl);
       none = λ e. absurd (cc);
       versions = h.sane.versions;
+      values = h.sane.values;
+      numbers = λ u i. ⊎_elim (λ (e : t ≡ u). omega (arith, e, low)) (λ j. h.sane.numbers u j) i;
       due = refl;
     }
 

@@ -314,10 +314,10 @@ module _ (c : Layout) (is_layout : IsLayout c) (need : Calm → Bool → List Nu
         (λ v. v.settle m begun last is_over z h x cs) (settle_line c m begun last is_over z h))
         (λ v. v.settle m begun last is_over z h x cs) still_few sized calm (subst (λ (w : Calm). names_rightly_from c begun is_over w cs ≡ true) zero right))
 
-    begin_case : (t : ℕ) → x.command ≡ commands.Begin t → (is_over : Bool) → is_over ≡ true → Between c m begun last is_over z → (In t begun → ⊥) → is_calm_from (Some t) false cs ≡ true → names_rightly_from c (t ∷ begun) false (begun_map m t) cs ≡ true
+    begin_case : (t : ℕ) → x.command ≡ commands.Begin t → (is_over : Bool) → is_over ≡ true → Between c m begun last is_over z → (In t begun → ⊥) → t ≤ 4294967295 → is_calm_from (Some t) false cs ≡ true → names_rightly_from c (t ∷ begun) false (begun_map m t) cs ≡ true
         → From is_over (calm_from c (begun_map m t) cs)
-    begin_case t e false o h fresh calm right = absurd (cc)
-    begin_case t e true o h fresh calm right =
+    begin_case t e false o h fresh low calm right = absurd (cc)
+    begin_case t e true o h fresh low calm right =
         rest_then n rec x cs le m begun true z (performs z (commands.Begin t)) (ap (performs z) e) (begun_map m t) (t ∷ begun) (Some t) false one_event []
         (⊎_elim
         (λ a. inl (
@@ -325,7 +325,7 @@ module _ (c : Layout) (is_layout : IsLayout c) (need : Calm → Bool → List Nu
           a.1,
           λ r. a.2 (let f = r.few in let g = begins_one x cs t e in omega (arith, f, g)) (room_now z (need m true (x ∷ cs)) one_event (need (begun_map m t) false cs) (r.covering.begin m t x cs e) r.room),
         ))
-        (λ s. inr s) (begin_line c m begun last z h t fresh))
+        (λ s. inr s) (begin_line c m begun last z h t fresh low))
         (λ v. v.begin m t x cs e) (λ f. let g = begins_one x cs t e in omega (arith, f, g)) sized calm right
 
     write_case : (t : ℕ) (k value : List ℕ) → (x.command ≡ commands.Write t k value) ⊎ ((x.command ≡ commands.Delete t k) × (value ≡ gone)) → performs z x.command ≡ by_event z (Write t k value) → length k ≤ 64 → length value ≤ 1024
@@ -398,7 +398,7 @@ module _ (c : Layout) (is_layout : IsLayout c) (need : Calm → Bool → List Nu
         → names_rightly_from c (begun_after begun cmd) (over_after is_over cmd) (calm_after c m cmd) cs ≡ true → Plays (calm_line m cmd ++ calm_from c (calm_after c m cmd) cs)
     by_command (commands.World dcs shards weights) e size stand calm name right = idle_case n rec x cs le m begun last z sized is_over h (ap (performs z) e) calm right
     by_command (commands.Split k) e size stand calm name right = idle_case n rec x cs le m begun last z sized is_over h (ap (performs z) e) calm right
-    by_command (commands.Begin t) e size stand calm name right = begin_case n rec x cs le m begun last z sized t e is_over stand h (fresh_of begun t (not_true _ name)) calm right
+    by_command (commands.Begin t) e size stand calm name right = begin_case n rec x cs le m begun last z sized t e is_over stand h (fresh_of begun t (not_true _ name)) size.1 calm right
     by_command (commands.Read t k) e size stand calm name right =
         let a = both_of (is_last last t) (settles_next cs) stand in
         let b = both_of (not is_over) (has_room m.touched k) name in

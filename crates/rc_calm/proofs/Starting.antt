@@ -126,7 +126,7 @@ servers : (d : ℕ) (ns : List ℕ) → (coords_in (map (λ (sh : ℕ). ShardSer
 servers d [] = (refl, refl)
 servers d (n ∷ ns) = let h = servers d ns in (h.0, ap suc h.1)
 
-length_up : (n : ℕ) → length (up_to n) ≡ n
+pub length_up : (n : ℕ) → length (up_to n) ≡ n
 length_up zero = refl
 length_up (suc n) = let h = length_up n in let l = length_both (up_to n) (suc n ∷ []) in omega (arith, h, l)
 
@@ -257,6 +257,8 @@ module _ (c : Layout) (is_layout : IsLayout c) where
     running = λ e. absurd (cc);
     none = λ e. refl;
     versions = λ k. omega arith;
+    values = λ k. tt;
+    numbers = λ u i. absurd i;
     due = refl;
   }
 

@@ -7,12 +7,14 @@ use Rattle.rc_ids.specs.Tables.{In, maybe, put, found}
 use Rattle.rc_ids.specs.Texts.{key_cmp}
 use Rattle.rc_body.specs.Entries.{wears_out}
 use Rattle.rc_body.specs.declared.entry.Entry.{Entry}
-use Rattle.rc_record.specs.ShardState.{version_at}
+use Rattle.rc_record.specs.ShardState.{version_at, value_at}
 use Rattle.rc_serial.specs.OneMap.{Map, entry_applied, body_applied}
 use Rattle.rc_protocol.specs.Client.{Slot, is_worn, entry_of}
 use Rattle.rc_claims.specs.Calm.{Touched, written}
 use Rattle.rc_calm_batches.proofs.Puts.{put_found, put_other, key_same, key_eq_of, same_key_or_not}
 use Rattle.rc_calm_batches.proofs.Slots.{fill, fills}
+use Rattle.rc_calm.proofs.Frames.{Short}
+use Rattle.rc_calm.proofs.Touches.{InRange}
 use Rattle.rc_calm.proofs.Touching.{slot_from, slots_from, read_of, OnceTouched}
 
 -- A WRITE
@@ -46,6 +48,26 @@ version_rises m (x ∷ xs) k o = ⊎_elim
     let b = subst (λ (j : List ℕ). version_at (entry_applied m (written x)) j ≤ version_at m j + 1) e (entry_rises m (written x)) in
     omega (arith, a, b))
     (λ n. let a = version_rises (entry_applied m (written x)) xs k o.1 in let b = entry_other m (written x) k n in omega (arith, a, b)) (same_key_or_not x.key k)
+
+-- VALUES stay short
+entry_short : (m : Map) (e : Entry) → Short e.write → ((k : List ℕ) → Short (value_at m k)) → (k : List ℕ) → Short (value_at (entry_applied m e) k)
+entry_short m e w h k = go e.write w
+  where
+    go : (x : Option (List ℕ)) → Short x → Short (value_at (maybe x m (λ value. put key_cmp m e.key (version_at m e.key + 1, value))) k)
+    go None s = h k
+    go (Some v) s = ⊎_elim
+        (λ (i : e.key ≡ k).
+        let p : value_at (put key_cmp m e.key (version_at m e.key + 1, v)) e.key ≡ Some v =
+        ap (λ (o : Option (ℕ × List ℕ)). maybe o None (λ row. Some row.1)) (put_found key_cmp key_same key_eq_of m e.key (version_at m e.key + 1, v)) in
+        subst (λ (j : List ℕ). Short (value_at (put key_cmp m e.key (version_at m e.key + 1, v)) j)) i (subst Short (sym p) s))
+        (λ n.
+        let p : value_at (put key_cmp m e.key (version_at m e.key + 1, v)) k ≡ value_at m k =
+        ap (λ (o : Option (ℕ × List ℕ)). maybe o None (λ row. Some row.1)) (put_other key_cmp key_same key_eq_of m e.key k (version_at m e.key + 1, v) n) in
+        subst Short (sym p) (h k)) (same_key_or_not e.key k)
+
+pub values_short : (m : Map) (xs : List Touched) → ((k : List ℕ) → Short (value_at m k)) → InRange xs → (k : List ℕ) → Short (value_at (body_applied m (map written xs)) k)
+values_short m [] h r k = h k
+values_short m (x ∷ xs) h r k = values_short (entry_applied m (written x)) xs (entry_short m (written x) (r x (inl refl)).1 h) (λ z i. r z (inr i)) k
 
 -- NONE IS WORN OUT
 fresh_entry : (e : Entry) → e.version ≤ 1024 → wears_out e ≡ false
