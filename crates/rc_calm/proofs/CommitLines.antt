@@ -5,16 +5,16 @@ use Rattle.std.proofs.lemmas.Bool.{ne_eqb}
 use Rattle.std.proofs.lemmas.List.{map-append}
 use Rattle.std.specs.Ordering.{nat_cmp}
 use Rattle.std.specs.BTreeMap.{is_at}
-use Rattle.rc_ids.specs.Tables.{Table, In, found}
+use Rattle.rc_ids.specs.Tables.{Table, In, found, up_to}
 use Rattle.rc_ids.specs.Cluster.{Layout, IsLayout, shard_of}
 use Rattle.rc_ids.specs.declared.names.Outcome.TheVariants.{Commit as Committed}
 use Rattle.rc_body.specs.Bodies.{touches, touched}
-use Rattle.rc_body.specs.Spelling.{entry_bytes}
+use Rattle.rc_body.specs.Spelling.{entry_bytes, body_bytes, held_bytes}
 use Rattle.rc_body.specs.declared.entry.Entry.{Entry}
 use Rattle.rc_msg.specs.declared.msg.Envelope.{Envelope}
 use Rattle.rc_report.specs.declared.line.Line.{Line}
 use Rattle.rc_report.specs.declared.line.Line.TheVariants.{Settled, Learned}
-use Rattle.rc_record.specs.ShardState.{version_at}
+use Rattle.rc_record.specs.ShardState.{version_at, value_at}
 use Rattle.rc_serial.specs.OneMap.{Map, body_applied}
 use Rattle.rc_protocol.specs.Messages.{client_of}
 use Rattle.rc_protocol.specs.Client.{Client, ClientAct, Slot, Committing, Proposed, client_says, body_of, is_worn, unread_keys, asks_all, do_commit}
@@ -43,12 +43,14 @@ use Rattle.rc_calm_batches.proofs.CommitReads.{KeysOnce, Unread, reads_left, pro
 use Rattle.rc_calm_batches.proofs.CommitWhole.{CommitOver, Rested, count as commit_count, commit_at_once, commit_with_reads, asks_out}
 use Rattle.rc_calm.proofs.Room.{SameSizes, drains_sizes}
 use Rattle.rc_calm.proofs.Layouts.{layout_least, layout_shard}
-use Rattle.rc_calm.proofs.Frames.{ready_is, entry_length}
+use Rattle.rc_calm.proofs.Frames.{ready_is, entry_length, held_length, fewer}
 use Rattle.rc_calm.proofs.Versions.{none_worn, version_rises, values_short}
 use Rattle.rc_calm.proofs.Unreads.{commit_asks, commit_proposes, unread_once, unread_slot, unread_of}
 use Rattle.rc_calm.proofs.Touching.{slots_from, body_from, slots_once, slots_calm, body_is, body_fits, body_touches, in_body, applied_written}
-use Rattle.rc_calm.proofs.Touches.{keys_of, in_keys}
-use Rattle.rc_calm.proofs.Counts.{commit_takes}
+use Rattle.rc_calm.proofs.Touches.{keys_of, keys_in}
+use Rattle.rc_calm.proofs.Counts.{commit_takes, unread_count, unread_is}
+use Rattle.rc_calm.proofs.Starting.{length_up}
+use Rattle.rc_calm.proofs.Allowances.{weight_of, body_weight, times, layout_small, rest_small}
 use Rattle.rc_calm.proofs.Clients.{LineLimited, LineActed, client_event, commit_tells}
 use Rattle.rc_calm.proofs.Between.{Sane, Peaceful, Between, open_client, set_none, set_count, peaceful_room}
 use Rattle.rc_calm.proofs.Costs.{Costs, costs, PairComes, pair_comes}
@@ -202,6 +204,7 @@ module _ (c : Layout) (is_layout : IsLayout c) (m : Calm) (begun : List ℕ) (la
   pub record CommitComes : Type 0 where
     pub delivered : List Envelope
     pub count : length delivered ≡ commit_deliveries c m.touched
+    pub bytes : bytes_of delivered ≤ unread_count m.touched * 9800 + 231 * (weight_of m.touched + 31)
     pub comes : PairComes Then z (costs (1 + length delivered) (length delivered) (bytes_of delivered) (text_bytes now)) now d1 (settles most_events 0 d1.after)
 
   whole_count : (u : ℕ) → u ≡ length (unread_keys slots) → u * (3 * p0.layout.dcs - q) + commit_count p0 m.rows m.committed m.tx keys y0 there q least slots [] once calm fresh fits touch p0.committed unlisted ≡ commit_deliveries c m.touched
@@ -211,10 +214,36 @@ module _ (c : Layout) (is_layout : IsLayout c) (m : Calm) (begun : List ℕ) (la
       ∙ (ap (λ (es : List Entry). length (unread_keys slots) * (3 * c.dcs - q) + (c.dcs + 3 * length (touched c es) * c.dcs + c.dcs * (c.dcs + 1))) (body_is m.rows m.touched)
       ∙ commit_takes c m.rows m.touched h.sane.once h.sane.used))
 
+  few_dcs : p0.layout.dcs ≤ 7
+  few_dcs = subst (λ (l : Layout). l.dcs ≤ 7) (sym h.parties.layout) (layout_small c is_layout).0
+
+  short_rows : (k : List ℕ) → In k keys → (length k ≤ 64) × (length (held_bytes (value_at m.rows k)) ≤ 1027)
+  short_rows k i = let x = keys_in m.touched k i in (subst (λ (j : List ℕ). length j ≤ 64) x.2 (h.sane.ranges x.0 x.1).0, held_length (value_at m.rows k) (h.sane.values k))
+
+  few_held : length (touched p0.layout body) ≤ 8
+  few_held =
+      let f = fewer (touches p0.layout body) (up_to p0.layout.shards) in
+      let u = length_up p0.layout.shards in
+      let s = subst (λ (l : Layout). l.shards ≤ 8) (sym h.parties.layout) (layout_small c is_layout).1 in
+      omega (arith, f, u, s)
+
+  body_light : length (body_bytes body) + 30 ≤ weight_of m.touched + 31
+  body_light =
+      let w = body_weight m.rows m.touched in
+      let e : length (body_bytes body) ≡ length (body_bytes (body_from m.rows m.touched)) = ap (λ (es : List Entry). length (body_bytes es)) (body_is m.rows m.touched) in omega (arith, w, e)
+
+  whole_bytes : (u n : ℕ) → u ≡ unread_count m.touched → n ≤ u * 9800 + commit_count p0 m.rows m.committed m.tx keys y0 there q least slots [] once calm fresh fits touch p0.committed unlisted * (length (body_bytes body) + 30)
+      → n ≤ unread_count m.touched * 9800 + 231 * (weight_of m.touched + 31)
+  whole_bytes u n e h =
+      let a : u * 9800 ≡ unread_count m.touched * 9800 = ap (λ (x : ℕ). x * 9800) e in
+      let b = times (commit_count p0 m.rows m.committed m.tx keys y0 there q least slots [] once calm fresh fits touch p0.committed unlisted) (length (body_bytes body) + 30) 231 (weight_of m.touched + 31)
+      (rest_small p0.layout.dcs (length (touched p0.layout body)) few_dcs few_held) body_light in
+      omega (arith, a, b, h)
+
   -- by the event's act and what it leads to
-  comes_by : (act : ClientAct) (es : List Envelope) (u n : ℕ) → do_commit p0.layout m.tx y0 ≡ act → act.refused ≡ None → act.lines ≡ [] → envelopes (client_of m.tx) act.sends ≡ es → n ≡ commit_deliveries c m.touched
+  comes_by : (act : ClientAct) (es : List Envelope) (u n : ℕ) → do_commit p0.layout m.tx y0 ≡ act → act.refused ≡ None → act.lines ≡ [] → envelopes (client_of m.tx) act.sends ≡ es → n ≡ commit_deliveries c m.touched → u ≡ unread_count m.touched
       → CommitOver p0 m.rows m.committed m.tx keys y0 there q least slots [] once calm fresh fits touch p0.committed unlisted es u n (with_client p0 m.tx act.after) → CommitComes
-  comes_by act es u n row fine quiet posts total over =
+  comes_by act es u n row fine quiet posts total unread over =
       let peace = then_peace act.after over.after (over.rests m.tx) (drains_sizes (with_client p0 m.tx act.after) es over.after _ over.delivered over.drains) in
       let all : length over.delivered ≡ commit_deliveries c m.touched = over.count ∙ total in
       let event = client_event z m.tx Commits (Commit m.tx) y0 act (commit_tells z m.tx) h.queue h.parties.start there refl refl row fine in
@@ -223,6 +252,7 @@ module _ (c : Layout) (is_layout : IsLayout c) (m : Calm) (begun : List ℕ) (la
       record {
         delivered = over.delivered;
         count = all;
+        bytes = whole_bytes u _ unread (over.bytes few_dcs short_rows);
         comes = subst (λ (k : ℕ). PairComes Then z (costs (1 + length over.delivered) (length over.delivered) (bytes_of over.delivered) (text_bytes (Learned m.tx Committed ∷ Settled k ∷ []))) (Learned m.tx Committed ∷ Settled k ∷ []) d1 (settles most_events 0 d1.after)) all
             (pair_comes Then z (with_client p0 m.tx act.after) es over.after (Learned m.tx Committed ∷ []) over.delivered d1 over.drains h.coords_fit h.shards_fit
             (peaceful_room c (committed_map m) begun true over.after peace) (settled_between c (committed_map m) begun last true over.after then_sane peace) told);
@@ -232,11 +262,13 @@ module _ (c : Layout) (is_layout : IsLayout c) (m : Calm) (begun : List ℕ) (la
   by_keys [] e =
       comes_by (client_says (record { phase = Proposed; slots = final; refusals = []; votes = []; outcome = None }) (proposal p0 m.rows m.committed m.tx keys y0 there q least slots [] once calm)) _ 0 _
       (commit_proposes p0.layout m.rows m.tx slots [] once calm e lasting) refl refl refl (let w = whole_count 0 (ap length (sym e)) in let k : 0 * (3 * p0.layout.dcs - q) ≡ 0 = grind (arith) in omega (arith, w, k))
+      (ap length (sym e) ∙ unread_is m.rows m.touched h.sane.once h.sane.used)
       (commit_at_once p0 m.rows m.committed m.tx keys y0 there q least slots [] once calm fresh fits touch p0.committed unlisted h.parties.start idle refl (with_client p0 m.tx (proposed p0 m.rows m.committed m.tx keys y0 there q least slots [] once calm))
       (with_y (proposed p0 m.rows m.committed m.tx keys y0 there q least slots [] once calm)))
   by_keys (k ∷ ks) e =
       comes_by (client_says (record { phase = Committing; slots = fills m.rows (among (k ∷ ks)) slots; refusals = []; votes = []; outcome = None }) (asks_all p0.layout m.tx (k ∷ ks))) _ (length (k ∷ ks)) _
       (commit_asks p0.layout m.rows m.tx slots [] once calm k ks e) refl refl (asked p0 m.rows m.committed m.tx keys y0 there q least slots [] once calm (k ∷ ks)) (whole_count (length (k ∷ ks)) (ap length (sym e)))
+      (ap length (sym e) ∙ unread_is m.rows m.touched h.sane.once h.sane.used)
       (commit_with_reads p0 m.rows m.committed m.tx keys y0 there q least slots [] once calm fresh fits touch p0.committed unlisted h.parties.start idle refl k ks
       (subst KeysOnce e (unread_once slots once)) (λ j i. unread_slot slots once j (is_unread_key j i)) in_shards lasting
       (with_client p0 m.tx (reads_left p0 m.rows m.committed m.tx keys y0 there q least slots [] once calm (among (k ∷ ks))))

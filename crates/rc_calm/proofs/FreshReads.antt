@@ -25,9 +25,13 @@ use Rattle.rc_calm_batches.specs.Passes.{Drains}
 use Rattle.rc_calm_batches.proofs.Stages.{AtRest, Beside, Shards}
 use Rattle.rc_calm_batches.proofs.Coords.{Coords, CoordIs}
 use Rattle.rc_calm_batches.proofs.Quorums.{IsLeast}
+use Rattle.rc_calm_batches.proofs.Weights.{read_bytes}
 use Rattle.rc_calm_batches.proofs.ReadTurns.{With, found_set, twice_set}
 use Rattle.rc_calm_batches.proofs.ReadDrains.{ReadDone, read_drains, begun as read_begun, over_read, delivered}
 use Rattle.rc_calm_batches.proofs.Slots.{set_same}
+use Rattle.rc_ids.proofs.LayoutFacts.{dc_count_range}
+use Rattle.rc_record.specs.ShardState.{version_at, value_at}
+use Rattle.rc_calm.proofs.Frames.{held_length}
 use Rattle.rc_calm.proofs.Queue.{Queued}
 use Rattle.rc_calm.proofs.Room.{SameSizes, drains_sizes}
 use Rattle.rc_calm.proofs.Layouts.{layout_least, layout_shard}
@@ -142,6 +146,11 @@ module _ (c : Layout) (is_layout : IsLayout c) (m : Calm) (begun : List ℕ) (la
 
   pub ds_count : length ds ≡ read_deliveries c
   ds_count = is_done.count ∙ ap (λ (l : Layout). 3 * l.dcs - q) h.parties.layout
+
+  pub ds_bytes : bytes_of ds ≤ 9800
+  ds_bytes =
+      let few : p1.layout.dcs ≤ 7 = subst (λ (l : Layout). l.dcs ≤ 7) (sym h.parties.layout) (dc_count_range c.dcs is_layout.dcs).1 in
+      read_bytes p1.layout.dcs q m.tx k (shard_of p1.layout k) (version_at m.rows k) (value_at m.rows k) few short (held_length (value_at m.rows k) (h.sane.values k))
 
   beside : Beside (with_client p0 m.tx (open_client m.rows then_touched)) r
   beside = record {

@@ -21,7 +21,9 @@ pub mod FreshReads
 pub mod CommitLines
 pub mod ScriptFacts
 pub mod Starting
+pub mod Outcomes
 pub mod Playing
 pub mod Played
 pub mod Allowances
 pub mod Texts
+pub mod Needs

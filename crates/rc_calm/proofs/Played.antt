@@ -19,7 +19,8 @@ use Rattle.rc_claims.specs.CalmScripts.{IsCalmScript, WritesCalmLines}
 use Rattle.rc_calm.proofs.ScriptFacts.{ScriptHas, facts_of}
 use Rattle.rc_calm.proofs.Costs.{Costs}
 use Rattle.rc_calm.proofs.Starting.{starts, begun_session, start_between}
-use Rattle.rc_calm.proofs.Playing.{Outcome, Stops, Written, Rooms, plays_on, calm_cons, both_of}
+use Rattle.rc_calm.proofs.Outcomes.{Outcome, Stops, Written}
+use Rattle.rc_calm.proofs.Playing.{Rooms, plays_on, calm_cons, both_of}
 
 script_plays : (p : Place) (first : NumberedCommand) (rest : List NumberedCommand) → plays_script p (first ∷ rest) ≡ plays_in p first rest first.command
 unfolding plays_script

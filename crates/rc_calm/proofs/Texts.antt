@@ -77,7 +77,7 @@ names_length (t ∷ ts) h =
     omega (arith, now, more, l, z)
 
 -- LINES
-one_line : (l : Line) (n : ℕ) → length (line_text l) ≤ n → text_bytes (l ∷ []) ≤ n
+pub one_line : (l : Line) (n : ℕ) → length (line_text l) ≤ n → text_bytes (l ∷ []) ≤ n
 one_line l n h = omega (arith, h)
 
 pub read_fits : (t : ℕ) (k : List ℕ) (v : ℕ) (value : Option (List ℕ)) → t ≤ 4294967295 → length k ≤ 64 → v ≤ 99999 → Short value → length (line_text (ReadLine t k v value)) ≤ 1300

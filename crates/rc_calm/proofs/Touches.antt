@@ -26,6 +26,11 @@ in_keys [] z i = absurd i
 in_keys (x ∷ xs) z (inl e) = inl (ap (λ (y : Touched). y.key) e)
 in_keys (x ∷ xs) z (inr i) = inr (in_keys xs z i)
 
+pub keys_in : (xs : List Touched) (k : List ℕ) → In k (keys_of xs) → (x : Touched) × In x xs × (x.key ≡ k)
+keys_in [] k i = absurd i
+keys_in (x ∷ xs) k (inl e) = (x, inl refl, e)
+keys_in (x ∷ xs) k (inr i) = let z = keys_in xs k i in (z.0, inr z.1, z.2)
+
 -- WHO IS THERE THEN
 pub set_in : (xs : List Touched) (n z : Touched) → In z (touched_set xs n) → (n ≡ z) ⊎ In z xs
 set_in [] n z h = h

@@ -21,7 +21,7 @@ use Rattle.rc_runs.specs.Votes.{is_listed}
 use Rattle.rc_runs.specs.World.{Parties, new_start, envelopes, bytes_of}
 use Rattle.rc_calm_batches.specs.Passes.{Drains, after_all, each}
 use Rattle.rc_calm_batches.proofs.Sizes.{Ready}
-use Rattle.rc_calm_batches.proofs.Weights.{Light, light_each, light_unless, light_bytes, bytes_both, ask_bytes, cancel_bytes, grant_bytes}
+use Rattle.rc_calm_batches.proofs.Weights.{Light, light_each, light_unless, light_some, bytes_both, ask_bytes, cancel_bytes, grant_bytes}
 use Rattle.rc_calm_batches.proofs.ReadTurns.{With}
 use Rattle.rc_calm_batches.proofs.ReadDrains.{env_each, length_both, length_ones, length_rest}
 use Rattle.rc_calm_batches.proofs.Quorums.{IsLeast}
@@ -40,14 +40,6 @@ length_all (k ∷ ks) n f h = let more = length_all ks n f h in let now = h k in
 all_bytes : (n : ℕ) (ks : List (List ℕ)) (f : List ℕ → List Envelope) → ((k : List ℕ) → In k ks → bytes_of (f k) ≤ n) → bytes_of (all_of ks f) ≤ length ks * n
 all_bytes n [] f h = omega arith
 all_bytes n (k ∷ ks) f h = let now = h k (inl refl) in let more = all_bytes n ks f (λ j i. h j (inr i)) in let l = bytes_both (f k) (all_of ks f) in let z : suc (length ks) * n ≡ n + length ks * n = grind (arith) in omega (arith, now, more, l, z)
-
--- so many light ones
-light_some : (w n most : ℕ) (es : List Envelope) → n ≤ most → Light w es → length es ≡ n → bytes_of es ≤ most * w
-light_some w n most es le f l =
-    let b = light_bytes w es f in
-    let e : most ≡ length es + (most - length es) = omega (arith, le, l) in
-    let z : most * w ≡ length es * w + (most - length es) * w = ap (λ (x : ℕ). x * w) e ∙ grind (arith) in
-    omega (arith, b, z)
 
 sum_reads : (u n r k : ℕ) → u * n + (u * n + (u * r + k)) ≡ u * (n + (n + r)) + k
 sum_reads u n r k = grind (arith)

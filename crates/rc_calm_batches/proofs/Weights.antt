@@ -1,6 +1,6 @@
 -- How many bytes the messages of a read and of a commit have.
 use Rattle.std.proofs.Common.{◌≡◌, ℕ, zero, suc, ◌+◌, ◌*◌, ◌≤◌, List, [], ◌∷◌, ◌++◌, refl, sym, ap, ◌∙◌, subst, arith, Bool, true, false, cond, Option, Some, None}
-use Rattle.std.specs.Prelude.{length, filter, if◌then◌else◌, ◌==◌}
+use Rattle.std.specs.Prelude.{length, if◌then◌else◌, ◌==◌, ◌-◌, nat_le}
 use Rattle.std.specs.List.{flat_map}
 use Rattle.std.proofs.lemmas.List.Sums.{sum_by-cons, sum_by-append}
 use Rattle.rc_ids.specs.Cluster.{Layout, shard_of}
@@ -16,7 +16,7 @@ use Rattle.rc_msg.specs.Spelling.{envelope_bytes, msg_bytes}
 use Rattle.rc_protocol.specs.Messages.{client_of, coordinator, shard_server}
 use Rattle.rc_runs.specs.World.{bytes_of}
 use Rattle.rc_calm_batches.specs.Passes.{each}
-use Rattle.rc_calm_batches.proofs.ReadDrains.{length_both}
+use Rattle.rc_calm_batches.proofs.ReadDrains.{length_both, length_ones, length_rest}
 
 pub bytes_cons : (e : Envelope) (es : List Envelope) → bytes_of (e ∷ es) ≡ length (envelope_bytes e) + bytes_of es
 bytes_cons e es = sum_by-cons (λ (x : Envelope). length (envelope_bytes x)) e es
@@ -54,6 +54,14 @@ light_bytes w (e ∷ es) h =
     let z : suc (length es) * w ≡ w + length es * w = grind (arith) in
     omega (arith, now, more, c, z)
 
+-- so many light ones
+pub light_some : (w n most : ℕ) (es : List Envelope) → n ≤ most → Light w es → length es ≡ n → bytes_of es ≤ most * w
+light_some w n most es le f l =
+    let b = light_bytes w es f in
+    let e : most ≡ length es + (most - length es) = omega (arith, le, l) in
+    let z : most * w ≡ length es * w + (most - length es) * w = ap (λ (x : ℕ). x * w) e ∙ grind (arith) in
+    omega (arith, b, z)
+
 -- READS
 pub ask_bytes : (t : ℕ) (k : List ℕ) (d s : ℕ) → length k ≤ 64 → length (envelope_bytes (record { from = client_of t; to = shard_server d s; msg = ReadAsk t k })) ≤ 100
 ask_bytes t k d s h = omega (arith, h)
@@ -69,6 +77,24 @@ grant_bytes t k d s version value h v =
     let l3 = length_both k (u8_bytes d) in
     let n : length (u64_bytes version) ≡ 8 = refl in
     omega (arith, h, v, l1, l2, l3, n)
+
+-- all of a read
+pub read_bytes : (n q t : ℕ) (k : List ℕ) (s version : ℕ) (value : Option (List ℕ)) → n ≤ 7 → length k ≤ 64 → length (held_bytes value) ≤ 1027
+    → bytes_of
+      (each n (λ d. record { from = client_of t; to = shard_server d s; msg = ReadAsk t k } ∷ [])
+      ++ (each n (λ d. record { from = shard_server d s; to = client_of t; msg = Granted t k d version value } ∷ [])
+      ++ (each n (λ d. if nat_le d q then [] else record { from = client_of t; to = shard_server d s; msg = ReadCancel t k } ∷ []) ++ []))) ≤ 9800
+read_bytes n q t k s version value few h v =
+    let asks = each n (λ d. record { from = client_of t; to = shard_server d s; msg = ReadAsk t k } ∷ []) in
+    let grants = each n (λ d. record { from = shard_server d s; to = client_of t; msg = Granted t k d version value } ∷ []) in
+    let cancels = each n (λ d. if nat_le d q then [] else record { from = client_of t; to = shard_server d s; msg = ReadCancel t k } ∷ []) in
+    let a = light_some 100 n 7 asks few (light_each 100 n _ (λ d. (ask_bytes t k d s h, tt))) (length_ones n _) in
+    let g = light_some 1200 n 7 grants few (light_each 1200 n _ (λ d. (grant_bytes t k d s version value h v, tt))) (length_ones n _) in
+    let c = light_some 100 (n - q) 7 cancels (omega (arith, few)) (light_each 100 n _ (λ d. light_unless 100 (nat_le d q) _ (cancel_bytes t k d s h))) (length_rest q n _) in
+    let l1 = bytes_both asks (grants ++ (cancels ++ [])) in
+    let l2 = bytes_both grants (cancels ++ []) in
+    let l3 = bytes_both cancels [] in
+    omega (arith, a, g, c, l1, l2, l3)
 
 -- COMMITS
 pub part_bytes : (c : Layout) (s : ℕ) (body : List Entry) → length (body_bytes (part c s body)) ≤ length (body_bytes body)
