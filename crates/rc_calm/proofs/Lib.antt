@@ -27,3 +27,5 @@ pub mod Played
 pub mod Allowances
 pub mod Texts
 pub mod Needs
+pub mod ScriptSizes
+pub mod Law
