@@ -104,4 +104,3 @@ begins_fewer x cs = go (is_begin x)
 
 pub begins_one : (x : NumberedCommand) (cs : List NumberedCommand) (t : ℕ) → x.command ≡ commands.Begin t → begins_in (x ∷ cs) ≡ suc (begins_in cs)
 begins_one x cs t e = ap (λ (c : Command). length (cond (is_begin (record { number = x.number; command = c })) (x ∷ filter is_begin cs) (filter is_begin cs))) e
-
