@@ -1,6 +1,6 @@
 -- What a transaction may still cost: the keys that it has not read yet, and the bytes of its body.
-use Rattle.std.proofs.Common.{◌≡◌, ℕ, zero, suc, ◌+◌, ◌-◌, ◌*◌, ◌≤◌, List, [], ◌∷◌, ◌++◌, refl, sym, ap, ◌∙◌, subst, arith, Bool, true, false, cond, Option, Some, None, inl, inr}
-use Rattle.std.specs.Prelude.{length, filter, is_some, not, ◌&&◌, count_by}
+use Rattle.std.proofs.Common.{◌≡◌, ℕ, suc, ◌+◌, ◌-◌, ◌*◌, ◌≤◌, List, [], ◌∷◌, ◌++◌, refl, ap, ◌∙◌, arith, Bool, true, false, cond, Option, Some, None}
+use Rattle.std.specs.Prelude.{length, is_some, not, ◌&&◌}
 use Rattle.std.specs.List.{flat_map}
 use Rattle.std.proofs.lemmas.List.Sums.{sum_by-cons}
 use Rattle.rc_ids.specs.Tables.{maybe, up_to}
@@ -10,7 +10,7 @@ use Rattle.rc_ids.proofs.LayoutFacts.{dc_count_range, splits_count}
 use Rattle.rc_fields.specs.Spelling.{key_bytes, u64_bytes, u16_bytes}
 use Rattle.rc_body.specs.Spelling.{held_bytes, entry_bytes, body_bytes}
 use Rattle.rc_serial.specs.OneMap.{Map}
-use Rattle.rc_claims.specs.Calm.{Touched, touched_of, touched_set, in_shard, shards_held, least_quorum, read_deliveries, commit_deliveries}
+use Rattle.rc_claims.specs.Calm.{Touched, touched_of, touched_set, in_shard, shards_held, read_deliveries, commit_deliveries}
 use Rattle.rc_calm_batches.proofs.ReadDrains.{length_both}
 use Rattle.rc_calm.proofs.Layouts.{layout_least}
 use Rattle.rc_calm.proofs.Frames.{fewer}

@@ -1,13 +1,12 @@
 -- What stands between the lines of a calm script: all is at rest, nothing is pending, and the one map is what the shards have.
-use Rattle.std.proofs.Common.{◌≡◌, ℕ, suc, ◌+◌, ◌*◌, ◌≤◌, List, [], ◌∷◌, ◌++◌, refl, sym, ap, ◌∙◌, subst, arith, Bool, true, false, cond, Option, Some, None, ◌⊎◌, inl, inr, ⊎_elim}
+use Rattle.std.proofs.Common.{◌≡◌, ℕ, suc, ◌+◌, ◌*◌, ◌≤◌, List, [], ◌∷◌, refl, sym, ap, ◌∙◌, subst, arith, Bool, true, false, cond, Option, Some, None}
 use Rattle.std.specs.Prelude.{map, length}
 use Rattle.std.specs.Ordering.{nat_cmp}
 use Rattle.std.specs.Map.{lookup, set_value}
 use Rattle.std.specs.BTreeMap.{is_at}
-use Rattle.rc_ids.specs.Tables.{Table, In, found}
+use Rattle.rc_ids.specs.Tables.{In, found}
 use Rattle.rc_ids.specs.Cluster.{Layout}
 use Rattle.rc_body.specs.declared.entry.Entry.{Entry}
-use Rattle.rc_msg.specs.declared.msg.Envelope.{Envelope}
 use Rattle.rc_report.specs.declared.line.Line.{Line}
 use Rattle.rc_record.specs.ShardState.{version_at, value_at}
 use Rattle.rc_serial.specs.OneMap.{Map}
@@ -16,11 +15,10 @@ use Rattle.rc_protocol.specs.Coordinator.{new_volatile}
 use Rattle.rc_protocol.specs.Nodes.{CoordNode, ShardNode}
 use Rattle.rc_runs.specs.Refusals.{most_transactions}
 use Rattle.rc_runs.specs.Devices.{Device}
-use Rattle.rc_runs.specs.World.{Parties, new_start, with_client, replaced}
+use Rattle.rc_runs.specs.World.{Parties, new_start, with_client}
 use Rattle.rc_runs.specs.Session.{Session}
 use Rattle.rc_runs.specs.Script.{LineDone}
 use Rattle.rc_claims.specs.Calm.{Calm, Touched, with_due}
-use Rattle.rc_calm_batches.proofs.Sizes.{log_bytes, most_frame}
 use Rattle.rc_calm_batches.proofs.Stages.{AtRest, Shards}
 use Rattle.rc_calm_batches.proofs.Coords.{Coords, CoordIs}
 use Rattle.rc_calm_batches.proofs.ReadTurns.{found_set}

@@ -1,15 +1,12 @@
 -- An event of the client of a transaction where nothing is pending: it acts by its row, and what it sends is all that is pending then.
-use Rattle.std.proofs.Common.{◌≡◌, ℕ, suc, ◌+◌, ◌≤◌, List, [], ◌∷◌, ◌++◌, refl, sym, ap, ◌∙◌, subst, arith, Bool, true, false, Option, Some, None, ◌⊎◌, inl, inr, ⊎_elim}
-use Rattle.std.specs.Prelude.{Ok, Err, length, nat_le, nat_lt, is_some, ◌||◌, ◌&&◌, if◌then◌else◌}
+use Rattle.std.proofs.Common.{◌≡◌, ℕ, ◌+◌, ◌≤◌, List, [], ◌∷◌, ◌++◌, refl, sym, ap, ◌∙◌, subst, arith, Bool, true, false, Option, Some, None, ◌⊎◌, inl, inr, ⊎_elim}
+use Rattle.std.specs.Prelude.{Ok, length, nat_le, nat_lt, is_some, ◌||◌, if◌then◌else◌}
 use Rattle.std.proofs.lemmas.Bool.{lt-leb, le-ltb, leb-false}
-use Rattle.std.proofs.lemmas.List.{append-nil}
 use Rattle.std.specs.Ordering.{nat_cmp}
 use Rattle.rc_ids.specs.Tables.{maybe, found, member}
-use Rattle.rc_ids.specs.Cluster.{Layout}
 use Rattle.rc_ids.specs.declared.names.NodeId.{NodeId}
 use Rattle.rc_ids.specs.declared.names.Party.{Party}
 use Rattle.rc_msg.specs.declared.msg.Envelope.{Envelope}
-use Rattle.rc_report.specs.declared.fault.Wrong.{Wrong}
 use Rattle.rc_report.specs.declared.fault.Wrong.TheVariants.{Vanished, NotBegun, BegunTwice}
 use Rattle.rc_report.specs.declared.fault.Which.TheVariants.{Transactions}
 use Rattle.rc_report.specs.declared.fault.Which.{Which}
@@ -19,10 +16,10 @@ use Rattle.rc_protocol.specs.Client.{Client, ClientAct, ClientRefusal, is_vanish
 use Rattle.rc_protocol.specs.Acts.{ClientCause, Reads, Writes, Commits, refusal, client_by_row, client_act}
 use Rattle.rc_runs.specs.declared.event.Event.{Event}
 use Rattle.rc_runs.specs.declared.event.Event.TheVariants.{Begin, Read, Write, Commit}
-use Rattle.rc_runs.specs.World.{World, Parties, Start, Deed, Idle, ByClient, Course, Goes, new_start, deed, course_deed, actor, client_does, after_begin, still_pending, restart_lines, with_client, with_new_client, parties_after, envelopes, numbers_after, sends_of, lines_of, bytes_of, step, printed}
-use Rattle.rc_runs.specs.Refusals.{Happening, wrong, wrong_of, name_of, named_wrongly, is_begun, begins, limit, limit_of, worn_out, most_events, most_messages, most_message_bytes, most_transactions}
+use Rattle.rc_runs.specs.World.{World, Parties, Start, Deed, Idle, ByClient, Goes, new_start, deed, course_deed, actor, client_does, after_begin, still_pending, restart_lines, with_client, with_new_client, parties_after, envelopes, numbers_after, sends_of, lines_of, bytes_of, step, printed}
+use Rattle.rc_runs.specs.Refusals.{wrong, wrong_of, name_of, named_wrongly, begins, limit, limit_of, worn_out, most_events, most_messages, most_message_bytes, most_transactions}
 use Rattle.rc_runs.specs.Devices.{appended}
-use Rattle.rc_runs.specs.Session.{Session, Limited, Happened, DiskChange, append_of, append_change, no_change, device_of, disk_change, with_change, happens, most_text_bytes, text_bytes}
+use Rattle.rc_runs.specs.Session.{Session, Limited, Happened, DiskChange, append_of, append_change, no_change, device_of, disk_change, with_change, most_text_bytes, text_bytes}
 use Rattle.rc_runs.specs.Script.{LineDone, by_event, line_done}
 use Rattle.rc_calm.proofs.Queue.{Queued, goes, sent_count, no_limit, numbers_new}
 use Rattle.rc_calm.proofs.Settles.{Advanced, runs, stepped}

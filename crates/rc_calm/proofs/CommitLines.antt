@@ -1,6 +1,6 @@
 -- A commit and its settle: the commit is learned, and all is at rest with the map that has its writes.
-use Rattle.std.proofs.Common.{◌≡◌, ℕ, suc, ◌+◌, ◌-◌, ◌*◌, ◌≤◌, List, [], ◌∷◌, ◌++◌, refl, sym, ap, ◌∙◌, subst, arith, Bool, true, false, Option, Some, None, ◌⊎◌, inl, inr, ⊎_elim}
-use Rattle.std.specs.Prelude.{length, map, ◌==◌}
+use Rattle.std.proofs.Common.{◌≡◌, ℕ, suc, ◌+◌, ◌-◌, ◌*◌, ◌≤◌, List, [], ◌∷◌, ◌++◌, refl, sym, ap, ◌∙◌, subst, arith, true, false, Option, Some, None, ◌⊎◌, inl, inr, ⊎_elim}
+use Rattle.std.specs.Prelude.{length, map}
 use Rattle.std.proofs.lemmas.Bool.{ne_eqb}
 use Rattle.std.proofs.lemmas.List.{map-append}
 use Rattle.std.specs.Ordering.{nat_cmp}
@@ -14,23 +14,21 @@ use Rattle.rc_body.specs.declared.entry.Entry.{Entry}
 use Rattle.rc_msg.specs.declared.msg.Envelope.{Envelope}
 use Rattle.rc_report.specs.declared.line.Line.{Line}
 use Rattle.rc_report.specs.declared.line.Line.TheVariants.{Settled, Learned}
-use Rattle.rc_record.specs.ShardState.{version_at, value_at}
+use Rattle.rc_record.specs.ShardState.{value_at}
 use Rattle.rc_serial.specs.OneMap.{Map, body_applied}
 use Rattle.rc_protocol.specs.Messages.{client_of}
 use Rattle.rc_protocol.specs.Client.{Client, ClientAct, Slot, Committing, Proposed, client_says, body_of, is_worn, unread_keys, asks_all, do_commit}
 use Rattle.rc_protocol.specs.Acts.{Commits}
 use Rattle.rc_protocol.specs.Coordinator.{new_volatile}
-use Rattle.rc_protocol.specs.Nodes.{CoordNode, ShardNode}
 use Rattle.rc_runs.specs.declared.event.Event.TheVariants.{Commit}
 use Rattle.rc_runs.specs.Votes.{is_listed}
 use Rattle.rc_runs.specs.Refusals.{most_events}
-use Rattle.rc_runs.specs.World.{Parties, with_client, replaced, envelopes, bytes_of}
+use Rattle.rc_runs.specs.World.{Parties, with_client, envelopes, bytes_of}
 use Rattle.rc_runs.specs.Session.{Session, text_bytes}
 use Rattle.rc_runs.specs.Script.{LineDone, by_event, settles}
-use Rattle.rc_claims.specs.Calm.{Calm, Touched, is_last, written, least_quorum, commit_deliveries}
-use Rattle.rc_calm_batches.specs.Passes.{Drains}
+use Rattle.rc_claims.specs.Calm.{Calm, Touched, written, least_quorum, commit_deliveries}
 use Rattle.rc_calm_batches.proofs.Sizes.{Ready}
-use Rattle.rc_calm_batches.proofs.Stages.{AtRest, Shards}
+use Rattle.rc_calm_batches.proofs.Stages.{AtRest}
 use Rattle.rc_calm_batches.proofs.Coords.{Coords, CoordIs}
 use Rattle.rc_calm_batches.proofs.Quorums.{IsLeast}
 use Rattle.rc_calm_batches.proofs.Rows.{Fits}
@@ -39,8 +37,8 @@ use Rattle.rc_calm_batches.proofs.Stands.{Idles}
 use Rattle.rc_calm_batches.proofs.ReadTurns.{With}
 use Rattle.rc_calm_batches.proofs.ReadDrains.{length_both}
 use Rattle.rc_calm_batches.proofs.Slots.{Once, NoneWaits, fills}
-use Rattle.rc_calm_batches.proofs.CommitReads.{KeysOnce, Unread, reads_left, proposed, proposal, among, asked}
-use Rattle.rc_calm_batches.proofs.CommitWhole.{CommitOver, Rested, count as commit_count, commit_at_once, commit_with_reads, asks_out}
+use Rattle.rc_calm_batches.proofs.CommitReads.{KeysOnce, reads_left, proposed, proposal, among, asked}
+use Rattle.rc_calm_batches.proofs.CommitWhole.{CommitOver, Rested, count as commit_count, commit_at_once, commit_with_reads}
 use Rattle.rc_calm.proofs.Room.{SameSizes, drains_sizes}
 use Rattle.rc_calm.proofs.Layouts.{layout_least, layout_shard}
 use Rattle.rc_calm.proofs.Frames.{ready_is, entry_length, held_length, fewer}
@@ -54,7 +52,7 @@ use Rattle.rc_calm.proofs.Allowances.{weight_of, body_weight, times, layout_smal
 use Rattle.rc_calm.proofs.Clients.{LineLimited, LineActed, client_event, commit_tells}
 use Rattle.rc_calm.proofs.Between.{Sane, Peaceful, Between, open_client, set_none, set_count, peaceful_room}
 use Rattle.rc_calm.proofs.Costs.{Costs, costs, PairComes, pair_comes}
-use Rattle.rc_calm.proofs.OneEvents.{same_tx, settled_between}
+use Rattle.rc_calm.proofs.OneEvents.{settled_between}
 
 -- who is not in the order
 not_listed : (xs : List (ℕ × List Entry)) (t : ℕ) → (In t (map (λ (x : ℕ × List Entry). x.0) xs) → ⊥) → is_listed xs t ≡ false

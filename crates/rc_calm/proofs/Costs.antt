@@ -1,6 +1,6 @@
 -- What lines of a script cost of the counts that limits look at, and what comes of them: a limit is met where there is no room for that,
 -- or they are done.
-use Rattle.std.proofs.Common.{◌≡◌, ℕ, suc, ◌+◌, ◌≤◌, List, [], ◌∷◌, ◌++◌, refl, sym, ap, ◌∙◌, subst, arith, Bool, true, false, Option, Some, None, ◌⊎◌, inl, inr, ⊎_elim}
+use Rattle.std.proofs.Common.{◌≡◌, ℕ, ◌+◌, ◌≤◌, List, [], ◌∷◌, ◌++◌, refl, sym, ap, subst, arith, Bool, true, false, Some, None, ◌⊎◌, inl, inr, ⊎_elim}
 use Rattle.std.specs.Prelude.{Ok, Err, length, nat_lt, if◌then◌else◌}
 use Rattle.std.proofs.lemmas.Bool.{le-ltb}
 use Rattle.rc_msg.specs.declared.msg.Envelope.{Envelope}
@@ -14,10 +14,10 @@ use Rattle.rc_runs.specs.Refusals.{most_events, most_messages, most_message_byte
 use Rattle.rc_runs.specs.Devices.{Device}
 use Rattle.rc_runs.specs.Session.{Session, Limited, most_text_bytes, text_bytes, with_text}
 use Rattle.rc_runs.specs.Script.{LineDone, settles, by_lines, line_done}
-use Rattle.rc_calm_batches.specs.Passes.{Drains, Empty}
+use Rattle.rc_calm_batches.proofs.Passes.{Drains, Empty}
 use Rattle.rc_calm_batches.proofs.ReadDrains.{length_both}
 use Rattle.rc_calm.proofs.Queue.{Queued}
-use Rattle.rc_calm.proofs.Settles.{DrainRoom, DrainSpent, SettledAs, MeetsLimit, drains_all}
+use Rattle.rc_calm.proofs.Settles.{SettledAs, MeetsLimit, drains_all}
 use Rattle.rc_calm.proofs.Logs.{Fit, HasRoom}
 use Rattle.rc_calm.proofs.Disks.{DisksFit, settles_with_disks}
 use Rattle.rc_calm.proofs.Clients.{LineLimited, LineActed}

@@ -12,9 +12,9 @@ use Rattle.rc_runs.specs.declared.event.Event.TheVariants.{Deliver}
 use Rattle.rc_protocol.specs.Nodes.{CoordNode, ShardNode, coord_index, shard_index, coord_after, shard_after, logged}
 use Rattle.rc_runs.specs.World.{Parties, Deed, Idle, ByClient, ByCoord, ByShard, CoordStops, ShardStops, Goes, received, parties_after}
 use Rattle.rc_runs.specs.Devices.{Device, Made, appended, record_length}
-use Rattle.rc_runs.specs.Session.{Session, DiskChange, append_of, append_change, no_change, no_device, device_in, device_of, with_device, disk_change, with_change}
+use Rattle.rc_runs.specs.Session.{Session, DiskChange, append_of, append_change, no_change, no_device, device_in, device_of, disk_change, with_change}
 use Rattle.rc_runs.specs.Script.{settles}
-use Rattle.rc_calm_batches.specs.Passes.{Drains, Empty, Next, deed_of}
+use Rattle.rc_calm_batches.proofs.Passes.{Drains, Empty, Next, deed_of}
 use Rattle.rc_calm_batches.proofs.Indices.{get_set_same}
 use Rattle.rc_calm.proofs.Queue.{Queued, number, message_is, parties_is}
 use Rattle.rc_calm.proofs.Settles.{Takes, SettledAs, MeetsLimit, settles_drains}

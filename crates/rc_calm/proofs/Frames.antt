@@ -1,10 +1,10 @@
 -- A body of at most 32 keys and values that are no longer than a script's fits into frames of 40,000 bytes.
-use Rattle.std.proofs.Common.{◌≡◌, ℕ, suc, ◌+◌, ◌*◌, ◌≤◌, List, [], ◌∷◌, ◌++◌, refl, sym, ap, ◌∙◌, subst, arith, Bool, true, false, cond, Option, Some, None, inl, inr}
+use Rattle.std.proofs.Common.{◌≡◌, ℕ, suc, ◌+◌, ◌*◌, ◌≤◌, List, [], ◌∷◌, ◌++◌, refl, arith, Bool, true, false, cond, Option, Some, None, inl, inr}
 use Rattle.std.specs.Prelude.{length, filter, ◌==◌}
 use Rattle.std.specs.List.{flat_map}
 use Rattle.rc_ids.specs.Tables.{In}
 use Rattle.rc_ids.specs.Cluster.{Layout, shard_of}
-use Rattle.rc_fields.specs.Spelling.{u8_bytes, u32_bytes, u64_bytes, u16_bytes, key_bytes, val_bytes}
+use Rattle.rc_fields.specs.Spelling.{u32_bytes, u64_bytes, u16_bytes, key_bytes}
 use Rattle.rc_body.specs.Bodies.{part}
 use Rattle.rc_body.specs.Spelling.{held_bytes, entry_bytes, body_bytes, decision_bytes, outcome_bytes}
 use Rattle.rc_body.specs.declared.entry.Entry.{Entry}

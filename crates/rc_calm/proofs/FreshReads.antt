@@ -1,5 +1,5 @@
 -- A read of a new key and its settle: the map's row is printed, and all is at rest again with the key touched.
-use Rattle.std.proofs.Common.{◌≡◌, ℕ, suc, ◌+◌, ◌-◌, ◌*◌, ◌≤◌, List, [], ◌∷◌, ◌++◌, refl, sym, ap, ◌∙◌, subst, arith, Bool, true, false, Option, Some, None, ◌⊎◌, inl, inr, ⊎_elim}
+use Rattle.std.proofs.Common.{◌≡◌, ℕ, ◌+◌, ◌-◌, ◌*◌, ◌≤◌, List, [], ◌∷◌, ◌++◌, refl, sym, ap, ◌∙◌, subst, arith, Bool, true, false, Option, Some, None}
 use Rattle.std.specs.Prelude.{length, map, if◌then◌else◌}
 use Rattle.std.specs.Ordering.{nat_cmp}
 use Rattle.std.specs.BTreeMap.{is_at}
@@ -10,10 +10,10 @@ use Rattle.rc_msg.specs.declared.msg.Envelope.{Envelope}
 use Rattle.rc_report.specs.declared.line.Line.{Line}
 use Rattle.rc_report.specs.declared.line.Line.TheVariants.{Settled}
 use Rattle.rc_protocol.specs.Messages.{client_of}
-use Rattle.rc_protocol.specs.Client.{Client, Slot, TooManyKeys, with_slots, is_out_of_slots, client_says, asks, slot_of}
+use Rattle.rc_protocol.specs.Client.{Client, TooManyKeys, with_slots, is_out_of_slots, client_says, asks, slot_of}
 use Rattle.rc_protocol.specs.Acts.{Reads}
 use Rattle.rc_protocol.specs.Coordinator.{new_volatile}
-use Rattle.rc_protocol.specs.Nodes.{CoordNode, ShardNode}
+use Rattle.rc_protocol.specs.Nodes.{CoordNode}
 use Rattle.rc_runs.specs.declared.event.Event.TheVariants.{Read}
 use Rattle.rc_runs.specs.Refusals.{most_events}
 use Rattle.rc_runs.specs.World.{Parties, with_client, replaced, envelopes, bytes_of}
@@ -21,7 +21,6 @@ use Rattle.rc_runs.specs.Session.{Session, text_bytes}
 use Rattle.rc_runs.specs.Script.{by_event, settles}
 use Rattle.rc_claims.specs.Calm.{Calm, Touched, touched_of, touched_set, is_last, with_due, row_line, read_deliveries, least_quorum}
 use Rattle.rc_claims.specs.CalmScripts.{has_room}
-use Rattle.rc_calm_batches.specs.Passes.{Drains}
 use Rattle.rc_calm_batches.proofs.Stages.{AtRest, Beside, Shards}
 use Rattle.rc_calm_batches.proofs.Coords.{Coords, CoordIs}
 use Rattle.rc_calm_batches.proofs.Quorums.{IsLeast}
@@ -32,13 +31,12 @@ use Rattle.rc_calm_batches.proofs.Slots.{set_same}
 use Rattle.rc_ids.proofs.LayoutFacts.{dc_count_range}
 use Rattle.rc_record.specs.ShardState.{version_at, value_at}
 use Rattle.rc_calm.proofs.Frames.{held_length}
-use Rattle.rc_calm.proofs.Queue.{Queued}
-use Rattle.rc_calm.proofs.Room.{SameSizes, drains_sizes}
+use Rattle.rc_calm.proofs.Room.{drains_sizes}
 use Rattle.rc_calm.proofs.Layouts.{layout_least, layout_shard}
 use Rattle.rc_calm.proofs.Touching.{slots_from}
 use Rattle.rc_calm.proofs.Touches.{keys_of, in_keys, set_new_in, set_keys, set_once, set_used, set_ranges, set_few, client_room}
 use Rattle.rc_calm.proofs.Commands.{asking, reads_fresh, slot_end, fresh_done}
-use Rattle.rc_calm.proofs.Clients.{LineLimited, LineActed, client_event, read_tells}
+use Rattle.rc_calm.proofs.Clients.{client_event, read_tells}
 use Rattle.rc_calm.proofs.Between.{Sane, Peaceful, Between, open_client, with_touched, rests_more, peaceful_room}
 use Rattle.rc_calm.proofs.Costs.{Costs, costs, PairComes, pair_comes}
 use Rattle.rc_calm.proofs.OneEvents.{same_tx, sane_touched, settled_between}

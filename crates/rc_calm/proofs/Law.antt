@@ -1,20 +1,19 @@
 -- The law of calm scripts.
-use Rattle.std.proofs.Common.{◌≡◌, ℕ, suc, ◌+◌, ◌*◌, ◌≤◌, List, [], ◌∷◌, refl, sym, ap, ◌∙◌, subst, arith, true, None, ◌⊎◌, inl, inr, ⊎_elim}
-use Rattle.std.specs.Prelude.{◌≢◌, length, filter}
+use Rattle.std.proofs.Common.{ℕ, ◌≤◌, List, [], ◌∷◌, arith, true, ⊎_elim}
+use Rattle.std.specs.Prelude.{length, filter}
 use Rattle.rc_ids.specs.Cluster.{Layout}
 use Rattle.rc_script.specs.declared.script.NumberedCommand.{NumberedCommand}
 use Rattle.rc_runs.specs.Refusals.{most_transactions}
 use Rattle.rc_runs.specs.Stored.{Place}
-use Rattle.rc_runs.specs.Text.{Done, LimitMet, played, most_script_bytes}
+use Rattle.rc_runs.specs.Text.{played}
 use Rattle.rc_claims.specs.Calm.{calm_start, calm_lines}
 use Rattle.rc_claims.specs.CalmScripts.{IsCalmScript, WritesCalmLines, is_begin}
 use Rattle.rc_calm.proofs.Starting.{begun_session}
 use Rattle.rc_calm.proofs.ScriptSizes.{script_size}
-use Rattle.rc_calm.proofs.Costs.{RoomFor}
-use Rattle.rc_calm.proofs.Outcomes.{Outcome, Stops, Written, begins_in}
+use Rattle.rc_calm.proofs.Outcomes.{Stops, Written}
 use Rattle.rc_calm.proofs.Playing.{Rooms}
 use Rattle.rc_calm.proofs.Played.{is_layout, outcome, ends}
-use Rattle.rc_calm.proofs.Needs.{need, weights, covering}
+use Rattle.rc_calm.proofs.Needs.{need, covering}
 
 -- a script of at most 1,024 transactions has room
 start_rooms : (p : Place) (bytes : List ℕ) (c : Layout) (first : NumberedCommand) (rest : List NumberedCommand) (h : IsCalmScript p bytes c first rest) → length (filter is_begin rest) ≤ most_transactions

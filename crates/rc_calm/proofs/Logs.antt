@@ -16,7 +16,7 @@ use Rattle.rc_protocol.specs.Shard.{shard_row}
 use Rattle.rc_protocol.specs.Client.{Client, client_row}
 use Rattle.rc_runs.specs.World.{Parties, Deed, Idle, ByClient, ByCoord, ByShard, CoordStops, ShardStops, received, parties_after, coord_at, shard_at, is_shard_of}
 use Rattle.rc_runs.specs.Devices.{Device, Made, appended, called, at_offset, most_log_bytes}
-use Rattle.rc_calm_batches.specs.Passes.{Drains, Empty, Next, deed_of}
+use Rattle.rc_calm_batches.proofs.Passes.{Drains, Empty, Next, deed_of}
 use Rattle.rc_calm_batches.proofs.Sizes.{log_bytes, bytes_end}
 use Rattle.rc_calm_batches.proofs.Indices.{get_set_same, get_set_other}
 use Rattle.rc_calm_batches.proofs.Stages.{same_or_not}

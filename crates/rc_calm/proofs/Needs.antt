@@ -1,25 +1,23 @@
 -- What the rest of a calm script needs of the counts that limits look at, so that each of its lines has room.
-use Rattle.std.proofs.Common.{◌≡◌, ℕ, zero, suc, ◌+◌, ◌-◌, ◌*◌, ◌≤◌, List, [], ◌∷◌, ◌++◌, refl, sym, ap, ◌∙◌, subst, arith, Bool, true, false, Option, Some, None, ◌⊎◌, inl, inr, ⊎_elim}
+use Rattle.std.proofs.Common.{◌≡◌, ℕ, ◌+◌, ◌-◌, ◌*◌, ◌≤◌, List, [], ◌∷◌, refl, sym, ap, ◌∙◌, arith, Bool, true, false, Option, Some, None, ◌⊎◌, ⊎_elim}
 use Rattle.std.specs.Prelude.{length}
-use Rattle.rc_ids.specs.Tables.{In, maybe}
+use Rattle.rc_ids.specs.Tables.{maybe}
 use Rattle.rc_ids.specs.Texts.{gone}
 use Rattle.rc_ids.specs.Cluster.{Layout, IsLayout}
 use Rattle.rc_report.specs.declared.line.Line.{Line}
-use Rattle.rc_report.specs.declared.line.Line.TheVariants.{Settled, Learned, Order as OrderLine, Own}
+use Rattle.rc_report.specs.declared.line.Line.TheVariants.{Settled, Order as OrderLine, Own}
 use Rattle.rc_report.specs.Lines.{line_text}
 use Rattle.rc_record.specs.ShardState.{version_at, value_at}
 use Rattle.rc_script.specs.declared.command.Command.{Command}
 use Rattle.rc_script.specs.declared.command.Command.TheVariants as commands
 use Rattle.rc_script.specs.declared.script.NumberedCommand.{NumberedCommand}
 use Rattle.rc_runs.specs.Session.{Session, text_bytes}
-use Rattle.rc_runs.specs.World.{bytes_of}
 use Rattle.rc_claims.specs.Calm.{Calm, Touched, touched_of, touched_set, with_due, after_write, read_line, row_line, read_deliveries, commit_deliveries}
 use Rattle.rc_claims.specs.CalmScripts.{has_room}
 use Rattle.rc_calm.proofs.Frames.{Short}
 use Rattle.rc_calm.proofs.Touches.{set_few}
-use Rattle.rc_calm.proofs.Counts.{unread_count}
 use Rattle.rc_calm.proofs.Commands.{touched_key}
-use Rattle.rc_calm.proofs.Between.{Sane, Between}
+use Rattle.rc_calm.proofs.Between.{Between}
 use Rattle.rc_calm.proofs.Costs.{Costs, costs}
 use Rattle.rc_calm.proofs.OneEvents.{begun_map}
 use Rattle.rc_calm.proofs.FreshReads.{then_touched, read_costs, ds_count, ds_bytes}

@@ -1,40 +1,35 @@
 -- The lines of a calm script after which all is at rest at once: begins, writes, reads of touched keys, orders, and settles of nothing.
-use Rattle.std.proofs.Common.{◌≡◌, ℕ, suc, ◌+◌, ◌≤◌, List, [], ◌∷◌, ◌++◌, refl, sym, ap, ◌∙◌, subst, arith, Bool, true, false, cond, Option, Some, None, ◌⊎◌, inl, inr, ⊎_elim}
-use Rattle.std.specs.Prelude.{map, length, is_some, ◌==◌, if◌then◌else◌}
+use Rattle.std.proofs.Common.{◌≡◌, ℕ, suc, ◌+◌, ◌≤◌, List, [], ◌∷◌, refl, sym, ap, ◌∙◌, subst, arith, Bool, true, false, cond, Option, Some, None, ◌⊎◌, inl, inr, ⊎_elim}
+use Rattle.std.specs.Prelude.{length, ◌==◌, if◌then◌else◌}
 use Rattle.std.proofs.lemmas.Bool.{eqb-true}
 use Rattle.std.specs.Ordering.{nat_cmp, is_eq, match_ordering}
 use Rattle.std.specs.declared.cmp.Ordering.{Ordering}
 use Rattle.std.specs.declared.cmp.Ordering.TheVariants.{Less, Equal, Greater}
 use Rattle.rc_ids.specs.Tables.{Table, In, found, put, maybe}
-use Rattle.rc_ids.specs.Texts.{gone}
 use Rattle.rc_ids.specs.Cluster.{Layout}
 use Rattle.rc_report.specs.declared.fault.Which.{Which}
 use Rattle.rc_report.specs.declared.line.Line.{Line}
-use Rattle.rc_report.specs.declared.line.Line.TheVariants.{Read as ReadLine, Own, Settled, Order as OrderLine}
-use Rattle.rc_record.specs.ShardState.{version_at, value_at}
-use Rattle.rc_protocol.specs.Client.{Client, ClientRefusal, TooManyKeys, Slot, is_out_of_slots, with_slots, client_stays, client_prints, new_client, do_read, do_write}
-use Rattle.rc_protocol.specs.Acts.{Reads, Writes, refusal}
-use Rattle.rc_protocol.specs.Nodes.{CoordNode, ShardNode}
+use Rattle.rc_report.specs.declared.line.Line.TheVariants.{Settled, Order as OrderLine}
+use Rattle.rc_protocol.specs.Client.{Client, TooManyKeys, Slot, is_out_of_slots, with_slots, client_stays, client_prints, new_client}
+use Rattle.rc_protocol.specs.Acts.{Reads, Writes}
 use Rattle.rc_runs.specs.declared.event.Event.TheVariants.{Begin, Read, Write}
 use Rattle.rc_runs.specs.Refusals.{most_transactions, most_events}
 use Rattle.rc_runs.specs.World.{Parties, order, with_client, with_new_client}
-use Rattle.rc_runs.specs.Session.{Session, Limited, text_bytes, with_text}
-use Rattle.rc_runs.specs.Script.{LineDone, by_event, by_lines, idle, settles}
-use Rattle.rc_claims.specs.Calm.{Calm, Touched, touched_of, touched_set, is_last, with_due, read_line, row_line, after_write}
+use Rattle.rc_runs.specs.Session.{Session, Limited, text_bytes}
+use Rattle.rc_runs.specs.Script.{by_event, by_lines, idle, settles}
+use Rattle.rc_claims.specs.Calm.{Calm, Touched, touched_of, touched_set, is_last, with_due, read_line, after_write}
 use Rattle.rc_claims.specs.CalmScripts.{has_room}
 use Rattle.rc_calm_batches.proofs.Stages.{AtRest}
 use Rattle.rc_calm_batches.proofs.Puts.{put_found, put_other, nat_same, nat_eq_of}
 use Rattle.rc_calm.proofs.Queue.{Queued}
-use Rattle.rc_calm.proofs.Logs.{Fit}
 use Rattle.rc_calm.proofs.Disks.{DisksFit}
-use Rattle.rc_calm.proofs.Frames.{Short}
-use Rattle.rc_calm.proofs.Touching.{slots_from, OnceTouched}
+use Rattle.rc_calm.proofs.Touching.{OnceTouched}
 use Rattle.rc_calm.proofs.Touches.{keys_of, InRange, set_keys, set_once, set_used, set_ranges, set_few, client_room}
 use Rattle.rc_calm.proofs.Counts.{Used}
 use Rattle.rc_calm.proofs.Commands.{write_is, reads_touched, touched_key}
-use Rattle.rc_calm.proofs.Clients.{LineLimited, LineActed, BeginLimited, BeginActed, client_event, begin_event, read_tells, write_tells}
+use Rattle.rc_calm.proofs.Clients.{BeginLimited, BeginActed, client_event, begin_event, read_tells, write_tells}
 use Rattle.rc_calm.proofs.Between.{Sane, Peaceful, Between, open_client, with_touched, acted_between, rests_next, peaceful_room}
-use Rattle.rc_calm.proofs.Costs.{Costs, costs, RoomFor, Spends, LimitHit, Stood, Comes, acted_comes, lines_come, settle_comes}
+use Rattle.rc_calm.proofs.Costs.{costs, RoomFor, LimitHit, Stood, Comes, acted_comes, lines_come, settle_comes}
 
 -- the transaction of the line is the open one
 pub same_tx : (m : Calm) (begun : List ℕ) (last : Option ℕ) (t : ℕ) → Sane m begun last false → is_last last t ≡ true → m.tx ≡ t

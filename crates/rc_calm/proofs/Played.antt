@@ -1,26 +1,21 @@
 -- A calm script on empty disks is played from a session that begins at rest.
-use Rattle.std.proofs.Common.{◌≡◌, ℕ, ◌≤◌, List, [], ◌∷◌, ◌++◌, refl, sym, ap, ◌∙◌, subst, arith, Bool, true, false, Option, Some, None, ◌⊎◌, inl, inr, ⊎_elim}
-use Rattle.std.specs.Prelude.{◌≢◌, length, nat_le, Ok, Err, Result, if◌then◌else◌, ◌&&◌}
-use Rattle.std.specs.List.{flat_map}
+use Rattle.std.proofs.Common.{◌≡◌, ℕ, List, [], ◌∷◌, refl, sym, ap, ◌∙◌, subst, arith, Bool, true, None, ⊎_elim}
+use Rattle.std.specs.Prelude.{◌≢◌, length, if◌then◌else◌, ◌&&◌}
 use Rattle.std.proofs.lemmas.Bool.{le-leb}
 use Rattle.rc_ids.specs.Cluster.{Layout, IsLayout}
 use Rattle.rc_report.specs.declared.line.Line.TheVariants.{ScriptBytes}
-use Rattle.rc_report.specs.Lines.{line_text}
 use Rattle.rc_script.specs.declared.command.Command.{Command}
-use Rattle.rc_script.specs.declared.command.Command.TheVariants as commands
 use Rattle.rc_script.specs.declared.script.NumberedCommand.{NumberedCommand}
-use Rattle.rc_script.specs.declared.fault.ScriptFault.{ScriptFault}
 use Rattle.rc_script.specs.Reading.{script_of}
-use Rattle.rc_runs.specs.Session.{Session, Halt}
 use Rattle.rc_runs.specs.Stored.{Place, new_session}
-use Rattle.rc_runs.specs.Text.{Played, Done, LimitMet, FarmFault, played, plays, plays_bytes, plays_parsed, plays_script, plays_in, plays_from, layout_of, most_script_bytes, piece_of}
-use Rattle.rc_claims.specs.Calm.{Calm, calm_start, calm_from, calm_lines, is_calm, is_calm_from, may_stand, last_begun, over_after}
-use Rattle.rc_claims.specs.CalmScripts.{IsCalmScript, WritesCalmLines}
+use Rattle.rc_runs.specs.Text.{LimitMet, FarmFault, played, plays, plays_bytes, plays_parsed, plays_script, plays_in, plays_from, most_script_bytes, piece_of}
+use Rattle.rc_claims.specs.Calm.{Calm, calm_start, calm_lines, is_calm_from, may_stand, last_begun, over_after}
+use Rattle.rc_claims.specs.CalmScripts.{IsCalmScript}
 use Rattle.rc_calm.proofs.ScriptFacts.{ScriptHas, facts_of}
 use Rattle.rc_calm.proofs.Costs.{Costs}
 use Rattle.rc_calm.proofs.Starting.{starts, begun_session, start_between}
 use Rattle.rc_calm.proofs.Outcomes.{Outcome, Stops, Written}
-use Rattle.rc_calm.proofs.Playing.{Rooms, plays_on, calm_cons, both_of}
+use Rattle.rc_calm.proofs.Playing.{Rooms, plays_on, calm_cons}
 
 script_plays : (p : Place) (first : NumberedCommand) (rest : List NumberedCommand) → plays_script p (first ∷ rest) ≡ plays_in p first rest first.command
 unfolding plays_script

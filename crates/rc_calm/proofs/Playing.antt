@@ -1,15 +1,11 @@
 -- A calm script is played line by line: it meets a limit where there is no room for it, or it is done and writes what one map prints.
-use Rattle.std.proofs.Common.{◌≡◌, ℕ, zero, suc, ◌+◌, ◌≤◌, List, [], ◌∷◌, ◌++◌, refl, sym, ap, ◌∙◌, subst, arith, Bool, true, false, cond, Option, Some, None, ◌⊎◌, inl, inr, ⊎_elim}
-use Rattle.std.specs.Prelude.{length, filter, not, ◌&&◌, ◌||◌, ◌==◌}
+use Rattle.std.proofs.Common.{◌≡◌, ℕ, zero, suc, ◌+◌, ◌≤◌, List, [], ◌∷◌, ◌++◌, refl, sym, ap, ◌∙◌, subst, arith, Bool, true, false, Option, Some, None, ◌⊎◌, inl, inr, ⊎_elim}
+use Rattle.std.specs.Prelude.{length, not, ◌&&◌, ◌||◌, ◌==◌}
 use Rattle.std.specs.List.{flat_map, list_any}
-use Rattle.std.proofs.lemmas.Bool.{eq-eqb, or_right}
-use Rattle.std.proofs.lemmas.List.{append-nil}
-use Rattle.std.proofs.lemmas.Grind.{flat_map-append}
+use Rattle.std.proofs.lemmas.Bool.{eq-eqb}
 use Rattle.rc_ids.specs.Tables.{In, maybe}
 use Rattle.rc_ids.specs.Texts.{gone}
 use Rattle.rc_ids.specs.Cluster.{Layout, IsLayout}
-use Rattle.rc_msg.specs.declared.msg.Envelope.{Envelope}
-use Rattle.rc_report.specs.declared.fault.Which.{Which}
 use Rattle.rc_report.specs.declared.line.Line.{Line}
 use Rattle.rc_report.specs.declared.line.Line.TheVariants.{Settled, Learned, Order as OrderLine}
 use Rattle.rc_report.specs.Lines.{line_text}
@@ -19,18 +15,17 @@ use Rattle.rc_script.specs.declared.script.NumberedCommand.{NumberedCommand}
 use Rattle.rc_ids.specs.declared.names.Outcome.TheVariants.{Commit as Committed}
 use Rattle.rc_runs.specs.declared.event.Event.TheVariants.{Read, Write, Commit}
 use Rattle.rc_runs.specs.Refusals.{most_transactions, most_events}
-use Rattle.rc_runs.specs.World.{bytes_of}
-use Rattle.rc_runs.specs.Session.{Session, Halt, Limited, text_bytes}
+use Rattle.rc_runs.specs.Session.{Session, text_bytes}
 use Rattle.rc_runs.specs.Script.{LineDone, performs, by_event, idle, settles}
-use Rattle.rc_runs.specs.Text.{Played, Done, LimitMet, plays, all_done, then_played, halted, piece_of}
+use Rattle.rc_runs.specs.Text.{Played, plays}
 use Rattle.rc_claims.specs.Calm.{Calm, Touched, touched_of, touched_set, with_due, is_settle, settles_next, is_last, may_stand, last_begun, over_after, is_calm_from, calm_after, calm_line, calm_from, after_write, after_commit, read_line, row_line, read_deliveries, commit_deliveries}
-use Rattle.rc_claims.specs.CalmScripts.{has_room, names, begun_after, names_rightly_from, is_begin}
-use Rattle.rc_calm.proofs.Outcomes.{Outcome, Written, Halts, plays_nil, line_then, Covers, room_now, room_then, begins_in, begins_fewer, begins_one}
+use Rattle.rc_claims.specs.CalmScripts.{has_room, names, begun_after, names_rightly_from}
+use Rattle.rc_calm.proofs.Outcomes.{Outcome, Halts, plays_nil, line_then, Covers, room_now, room_then, begins_in, begins_fewer, begins_one}
 use Rattle.rc_calm.proofs.ScriptFacts.{Sized, AllSized}
-use Rattle.rc_calm.proofs.Between.{Sane, Between}
-use Rattle.rc_calm.proofs.Costs.{Costs, costs, RoomFor, Spends, LimitHit, Stood, Comes, PairComes}
+use Rattle.rc_calm.proofs.Between.{Between}
+use Rattle.rc_calm.proofs.Costs.{Costs, costs, RoomFor, LimitHit, Stood, Comes, PairComes}
 use Rattle.rc_calm.proofs.FreshReads.{then_touched, read_costs, read_line as fresh_line}
-use Rattle.rc_calm.proofs.CommitLines.{committed_map, commit_costs, commit_line, CommitComes}
+use Rattle.rc_calm.proofs.CommitLines.{committed_map, commit_costs, commit_line}
 use Rattle.rc_calm.proofs.OneEvents.{begun_map, begin_line, write_line, read_again, same_tx, idle_line, order_line, settle_line, due_zero}
 
 -- what the rest of a script needs, so that each of its lines has room

@@ -10,7 +10,7 @@ use Rattle.rc_protocol.specs.Messages.{Posts}
 use Rattle.rc_runs.specs.declared.event.Event.{Event}
 use Rattle.rc_runs.specs.Refusals.{wrong, limit, worn_out, begins, most_events, most_messages, most_message_bytes}
 use Rattle.rc_runs.specs.World.{World, Deed, Idle, ByClient, ByCoord, ByShard, CoordStops, ShardStops, Goes, along, parties_after, message, sends_of, lines_of, envelopes, numbers_after, taken_out, bytes_of, step, printed, course_deed, actor}
-use Rattle.rc_calm_batches.specs.Passes.{deed_of}
+use Rattle.rc_calm_batches.proofs.Passes.{deed_of}
 use Rattle.rc_calm_batches.proofs.ReadDrains.{length_both}
 
 abbrev pub numbers_from : ℕ → List Envelope → List ℕ

@@ -7,7 +7,7 @@ use Rattle.rc_report.specs.declared.line.Line.{Line}
 use Rattle.rc_runs.specs.Devices.{most_log_bytes}
 use Rattle.rc_protocol.specs.Nodes.{CoordNode, ShardNode, coord_index, shard_index}
 use Rattle.rc_runs.specs.World.{Parties, Deed, Idle, ByClient, ByCoord, ByShard, CoordStops, ShardStops, parties_after}
-use Rattle.rc_calm_batches.specs.Passes.{Drains, Empty, Next, deed_of}
+use Rattle.rc_calm_batches.proofs.Passes.{Drains, Empty, Next, deed_of}
 use Rattle.rc_calm_batches.proofs.Indices.{compare}
 use Rattle.rc_calm_batches.proofs.Sizes.{log_bytes, most_frame}
 use Rattle.rc_calm_batches.proofs.Stages.{Shards, shard_is}
@@ -54,11 +54,11 @@ pub coords_room : (c : Layout) (C : ℕ → CoordNode → Type 0) (cs : List Coo
 coords_room c C cs len all h i y at =
     let low = get_low cs i y at in
     let z = all (suc i) (omega arith) (omega (arith, low, len)) in
-    let place : coord_index (suc i) ≡ i = omega arith in
-    let same : z.0 ≡ y = some_is z.0 y (sym z.1 ∙ (ap (slice_get cs) place ∙ at)) in
+    let index : coord_index (suc i) ≡ i = omega arith in
+    let same : z.0 ≡ y = some_is z.0 y (sym z.1 ∙ (ap (slice_get cs) index ∙ at)) in
     subst (λ (w : CoordNode). 701 + log_bytes w.log ≤ most_log_bytes) same (h (suc i) z.0 z.2)
 
-pub record AtPlace (n k i : ℕ) : Type 0 where
+pub record AtIndex (n k i : ℕ) : Type 0 where
   pub d : ℕ
   pub s : ℕ
   pub d1 : 1 ≤ d
@@ -67,10 +67,10 @@ pub record AtPlace (n k i : ℕ) : Type 0 where
   pub s2 : s ≤ k
   pub is : i ≡ (d - 1) * k + (s - 1)
 
-at_place : (n k i : ℕ) → i < n * k → AtPlace n k i
-at_place zero k i h = absurd (let z : 0 * k ≡ 0 = grind (arith) in omega (arith, h, z))
-at_place (suc n) k i h = ⊎_elim
-    (λ (l : i < n * k). let z = at_place n k i l in record { d = z.d; s = z.s; d1 = z.d1; d2 = let w = z.d2 in omega (arith, w); s1 = z.s1; s2 = z.s2; is = z.is })
+at_index : (n k i : ℕ) → i < n * k → AtIndex n k i
+at_index zero k i h = absurd (let z : 0 * k ≡ 0 = grind (arith) in omega (arith, h, z))
+at_index (suc n) k i h = ⊎_elim
+    (λ (l : i < n * k). let z = at_index n k i l in record { d = z.d; s = z.s; d1 = z.d1; d2 = let w = z.d2 in omega (arith, w); s1 = z.s1; s2 = z.s2; is = z.is })
     (λ w. let l : n * k ≤ i = ⊎_elim (λ (e : i ≡ n * k). omega (arith, e)) (λ (g : n * k < i). omega (arith, g)) w in
     let z : suc n * k ≡ n * k + k = grind (arith) in
     let e : suc n - 1 ≡ n = omega arith in
@@ -80,7 +80,7 @@ at_place (suc n) k i h = ⊎_elim
 pub shards_room : (S : ℕ → ℕ → ShardNode → Type 0) (p : Parties) → length p.shards ≡ p.layout.dcs * p.layout.shards → Shards S p → ((d s : ℕ) (x : ShardNode) → S d s x → 701 + log_bytes x.log ≤ most_log_bytes) → HasRoom (λ (x : ShardNode). x.log) p.shards
 shards_room S p len all h i y at =
     let low = get_low p.shards i y at in
-    let k = at_place p.layout.dcs p.layout.shards i (omega (arith, low, len)) in
+    let k = at_index p.layout.dcs p.layout.shards i (omega (arith, low, len)) in
     let z = all k.d k.s k.d1 k.d2 k.s1 k.s2 in
     let there : slice_get p.shards i ≡ Some z.0 = ap (slice_get p.shards) k.is ∙ (sym (shard_is p k.d k.s k.d1 k.d2 k.s1 k.s2) ∙ z.1) in
     subst (λ (w : ShardNode). 701 + log_bytes w.log ≤ most_log_bytes) (some_is z.0 y (sym there ∙ at)) (h k.d k.s z.0 z.2)

@@ -1,19 +1,18 @@
 -- What the grammar gives of a script's commands: their world is a layout, and their keys and values are no longer than keys and values.
-use Rattle.std.proofs.Common.{◌≡◌, ℕ, zero, suc, ◌+◌, ◌%◌, ◌≤◌, List, [], ◌∷◌, ◌++◌, refl, sym, ap, ◌∙◌, subst, arith, leb, Bool, true, false, ◌&&◌, Option, Some, None, inl, inr}
-use Rattle.std.specs.Prelude.{length, map, replicate, Ok, IsTrue, Result}
+use Rattle.std.proofs.Common.{◌≡◌, ℕ, zero, suc, ◌+◌, ◌%◌, ◌≤◌, List, [], ◌∷◌, ◌++◌, refl, sym, ap, ◌∙◌, subst, arith, leb, Bool, true, ◌&&◌, Option, Some, None}
+use Rattle.std.specs.Prelude.{length, map, replicate, Ok}
 use Rattle.std.specs.List.{list_all, flat_map, AllByRecursion}
 use Rattle.std.proofs.lemmas.Bool.{eq-eqb, le-leb}
 use Rattle.std.proofs.lemmas.List.{length-replicate}
 use Rattle.std.proofs.lemmas.Bool.Decides.{nat_tests}
-use Rattle.rc_ids.specs.Cluster.{Layout, IsLayout, equal_weights, is_dc_count, is_shard_count, is_key, is_weight, are_weights, are_splits, rise}
-use Rattle.rc_ids.specs.Texts.{IsKey, IsText, is_key_byte}
+use Rattle.rc_ids.specs.Cluster.{IsLayout, equal_weights, is_dc_count, is_shard_count, is_key, is_weight, are_weights, are_splits, rise}
+use Rattle.rc_ids.specs.Texts.{IsKey, is_key_byte}
 use Rattle.rc_ids.specs.Tables.{maybe}
 use Rattle.rc_script.specs.declared.command.Command.{Command}
 use Rattle.rc_script.specs.declared.command.Command.TheVariants as commands
 use Rattle.rc_script.specs.declared.script.NumberedCommand.{NumberedCommand}
-use Rattle.rc_script.specs.declared.fault.ScriptFault.{ScriptFault}
 use Rattle.rc_script.specs.Spelling.{IsIn, IsTx, AreWeights, IsCommandOf}
-use Rattle.rc_script.specs.Grammar.{IsOther, MayFollow, FollowsWorld, IsScript, IsScriptOf, commands_of}
+use Rattle.rc_script.specs.Grammar.{IsOther, MayFollow, FollowsWorld, IsScript, commands_of}
 use Rattle.rc_script.specs.Reading.{script_of}
 use Rattle.rc_script.proofs.Scripts.{is_found}
 use Rattle.rc_runs.specs.Text.{split_keys, layout_of}

@@ -1,15 +1,13 @@
 -- What a script of at most so many bytes has: its lines, and what its commands may add to bodies.
-use Rattle.std.proofs.Common.{◌≡◌, ℕ, zero, suc, ◌+◌, ◌-◌, ◌*◌, ◌≤◌, List, [], ◌∷◌, ◌++◌, refl, sym, ap, ◌∙◌, subst, arith, Bool, true, false, cond, inl, inr, ◌⊎◌, ⊎_elim}
+use Rattle.std.proofs.Common.{◌≡◌, ℕ, zero, suc, ◌+◌, ◌-◌, ◌*◌, ◌≤◌, List, [], ◌∷◌, ◌++◌, sym, ap, subst, arith, Bool, true, false, cond, inl, inr}
 use Rattle.std.specs.Prelude.{length, take, ◌==◌, if◌then◌else◌, codes, Ok, slice_index}
 use Rattle.std.specs.List.{join_with_byte, slice_split, onto_first}
 use Rattle.std.specs.Str.Lines.{lines, lines_of_parts, strip_carriage_return}
-use Rattle.std.proofs.lemmas.List.{length-take}
-use Rattle.std.specs.Prelude.{min}
 use Rattle.rc_script.specs.declared.command.Command.{Command}
 use Rattle.rc_script.specs.declared.command.Command.TheVariants as commands
 use Rattle.rc_script.specs.declared.script.NumberedCommand.{NumberedCommand}
 use Rattle.rc_script.specs.Spelling.{tx_name, spelling, IsShortWrite, Spells}
-use Rattle.rc_script.specs.Grammar.{SpellLines, IsScriptOf}
+use Rattle.rc_script.specs.Grammar.{SpellLines}
 use Rattle.rc_script.specs.Reading.{script_of}
 use Rattle.rc_script.proofs.Scripts.{is_found}
 use Rattle.rc_calm_batches.proofs.ReadDrains.{length_both}

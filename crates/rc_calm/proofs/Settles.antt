@@ -18,7 +18,7 @@ use Rattle.rc_runs.specs.World.{Parties, Course, Goes, parties_after, envelopes,
 use Rattle.rc_runs.specs.Refusals.{Happening, wrong, limit, worn_out, most_events, most_messages, most_message_bytes}
 use Rattle.rc_runs.specs.Session.{Session, Limited, Misnamed, FarmFails, Happened, disk_change, with_change, with_world, with_text, prints, happens, happens_within_limits, most_text_bytes, text_bytes}
 use Rattle.rc_runs.specs.Script.{LineDone, oldest, settles, by_lines, by_event, line_done, then_line, then_trace, unless_halted}
-use Rattle.rc_calm_batches.specs.Passes.{Drains, Empty, Next, deed_of}
+use Rattle.rc_calm_batches.proofs.Passes.{Drains, Empty, Next, deed_of}
 use Rattle.rc_calm.proofs.Queue.{Queued, number, named, prints_is, parties_is, posts_are, delivered, delivery_limit}
 use Rattle.rc_calm_batches.proofs.ReadDrains.{length_both}
 use Rattle.rc_calm_batches.proofs.Weights.{bytes_cons, bytes_both}

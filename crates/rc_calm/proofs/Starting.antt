@@ -1,27 +1,25 @@
 -- A session begins on empty disks of which no call fails: all is at rest, and no transaction was there.
-use Rattle.std.proofs.Common.{◌≡◌, ℕ, zero, suc, ◌+◌, ◌*◌, ◌≤◌, ◌<◌, List, [], ◌∷◌, ◌++◌, refl, sym, ap, ◌∙◌, subst, arith, Bool, true, false, Option, Some, None, inl, inr}
-use Rattle.std.specs.Prelude.{length, map, slice_get, nat_lt, ◌-◌, ◌==◌, ◌&&◌, if◌then◌else◌, Ok, Err, Result}
+use Rattle.std.proofs.Common.{◌≡◌, ℕ, zero, suc, ◌+◌, ◌*◌, ◌≤◌, ◌<◌, List, [], ◌∷◌, ◌++◌, refl, ap, ◌∙◌, subst, arith, Bool, true, false, Some, None}
+use Rattle.std.specs.Prelude.{length, map, slice_get, nat_lt, ◌-◌, ◌==◌, ◌&&◌, if◌then◌else◌, Ok, Err}
 use Rattle.std.specs.List.{flat_map, list_all}
 use Rattle.std.proofs.lemmas.Bool.{le-ltb, eqb-true}
 use Rattle.std.proofs.lemmas.Grind.{flat_map-append}
-use Rattle.rc_ids.specs.Tables.{In, up_to, maybe}
-use Rattle.rc_ids.specs.Cluster.{Layout, IsLayout, all_dcs, is_key, is_weight, are_weights}
+use Rattle.rc_ids.specs.Tables.{up_to}
+use Rattle.rc_ids.specs.Cluster.{Layout, IsLayout, is_key, is_weight, are_weights}
 use Rattle.rc_ids.specs.declared.names.NodeId.{NodeId}
 use Rattle.rc_ids.specs.declared.names.NodeId.TheVariants.{Coord, Shard as ShardServer}
 use Rattle.rc_ids.proofs.LayoutFacts.{dc_count_range, splits_count}
 use Rattle.rc_fields.specs.Spelling.{key_bytes, node_bytes}
 use Rattle.rc_body.specs.declared.entry.Entry.{Entry}
 use Rattle.rc_record.specs.Heads.{new_head}
-use Rattle.rc_record.specs.declared.record.Record.{Record}
 use Rattle.rc_record.specs.declared.record.Record.TheVariants.{Head}
-use Rattle.rc_record.specs.CoordState.{promise_of, outcome_of}
 use Rattle.rc_protocol.specs.Coordinator.{new_volatile}
 use Rattle.rc_protocol.specs.Nodes.{CoordNode, ShardNode, coord_started, shard_started, coord_index, shard_index}
-use Rattle.rc_runs.specs.World.{Parties, Start, new_start}
-use Rattle.rc_runs.specs.Starts.{start_of, named_by_coords, named_by_shards, with_choices, all_choices}
-use Rattle.rc_runs.specs.Devices.{Device, Made, called, at_offset, new_device, most_log_bytes, record_length, appended, created}
-use Rattle.rc_runs.specs.Session.{Session, Halt, FarmFails}
-use Rattle.rc_runs.specs.Stored.{Place, Begun, device_at, with_head, creates, opens_log, begins_node, begins_all, nodes_of, nodes_of_dc, and_then, with_rest, if_coord, if_shard, coords_of, shards_of, session_of, session_from, new_session}
+use Rattle.rc_runs.specs.World.{Parties, new_start}
+use Rattle.rc_runs.specs.Starts.{start_of, named_by_coords, named_by_shards, all_choices}
+use Rattle.rc_runs.specs.Devices.{Device, called, at_offset, new_device, most_log_bytes, record_length}
+use Rattle.rc_runs.specs.Session.{Session, FarmFails}
+use Rattle.rc_runs.specs.Stored.{Place, Begun, opens_log, begins_node, begins_all, nodes_of, nodes_of_dc, if_coord, if_shard, coords_of, shards_of, session_of, session_from, new_session}
 use Rattle.rc_claims.specs.Calm.{calm_start}
 use Rattle.rc_claims.specs.CalmScripts.{IsFaultless}
 use Rattle.rc_calm_batches.proofs.ReadDrains.{length_both}
@@ -29,10 +27,9 @@ use Rattle.rc_calm_batches.proofs.Sizes.{log_bytes}
 use Rattle.rc_calm_batches.proofs.Slots.{some_is}
 use Rattle.rc_calm_batches.proofs.Stages.{AtRest, Shards, shard_is}
 use Rattle.rc_calm_batches.proofs.Coords.{Coords, CoordIs}
-use Rattle.rc_calm.proofs.Queue.{Queued}
 use Rattle.rc_calm.proofs.Logs.{Fit, Takes}
 use Rattle.rc_calm.proofs.Room.{get_low}
-use Rattle.rc_calm.proofs.Between.{Sane, Peaceful, Between}
+use Rattle.rc_calm.proofs.Between.{Sane, Between}
 
 -- A HEAD is short
 both_of : (a b : Bool) → (a && b) ≡ true → (a ≡ true) × (b ≡ true)

@@ -1,10 +1,10 @@
 -- The touched keys of a transaction after one more is read or written.
-use Rattle.std.proofs.Common.{◌≡◌, ℕ, suc, ◌+◌, ◌≤◌, ◌<◌, List, [], ◌∷◌, ◌++◌, refl, sym, ap, ◌∙◌, subst, arith, Bool, true, false, cond, Option, Some, None, ◌⊎◌, inl, inr, ⊎_elim}
-use Rattle.std.specs.Prelude.{map, length, is_some, is_none, nat_lt, nat_le, ◌||◌, ◌&&◌, if◌then◌else◌}
+use Rattle.std.proofs.Common.{◌≡◌, ℕ, suc, ◌≤◌, List, [], ◌∷◌, refl, sym, ap, ◌∙◌, subst, arith, Bool, true, false, cond, Option, Some, None, ◌⊎◌, inl, inr, ⊎_elim}
+use Rattle.std.specs.Prelude.{map, length, is_some, is_none, nat_lt, nat_le, ◌||◌, ◌&&◌}
 use Rattle.std.proofs.lemmas.Bool.{lt-leb, ltb-true}
 use Rattle.rc_ids.specs.Tables.{In, maybe}
 use Rattle.rc_ids.specs.Texts.{same_key}
-use Rattle.rc_protocol.specs.Client.{Client, Slot, Open, slot_of, is_out_of_slots}
+use Rattle.rc_protocol.specs.Client.{Client, Slot, slot_of, is_out_of_slots}
 use Rattle.rc_serial.specs.OneMap.{Map}
 use Rattle.rc_claims.specs.Calm.{Touched, touched_of, touched_set}
 use Rattle.rc_claims.specs.CalmScripts.{has_room}

@@ -1,15 +1,14 @@
 -- Versions rise by at most one with each commit, so that none is worn out.
-use Rattle.std.proofs.Common.{◌≡◌, ℕ, suc, ◌+◌, ◌-◌, ◌≤◌, ◌^◌, List, [], ◌∷◌, refl, sym, ap, ◌∙◌, subst, arith, Bool, true, false, Option, Some, None, ◌⊎◌, inl, inr, ⊎_elim}
-use Rattle.std.specs.Prelude.{map, is_some, ◌==◌, ◌&&◌, ◌||◌}
+use Rattle.std.proofs.Common.{◌≡◌, ℕ, ◌+◌, ◌-◌, ◌≤◌, ◌^◌, List, [], ◌∷◌, refl, sym, ap, ◌∙◌, subst, arith, Bool, true, false, Option, Some, None, inl, inr, ⊎_elim}
+use Rattle.std.specs.Prelude.{map, is_some, ◌==◌, ◌&&◌}
 use Rattle.std.proofs.lemmas.Bool.{ne_eqb}
-use Rattle.std.specs.List.{list_any}
-use Rattle.rc_ids.specs.Tables.{In, maybe, put, found}
+use Rattle.rc_ids.specs.Tables.{In, maybe, put}
 use Rattle.rc_ids.specs.Texts.{key_cmp}
 use Rattle.rc_body.specs.Entries.{wears_out}
 use Rattle.rc_body.specs.declared.entry.Entry.{Entry}
 use Rattle.rc_record.specs.ShardState.{version_at, value_at}
 use Rattle.rc_serial.specs.OneMap.{Map, entry_applied, body_applied}
-use Rattle.rc_protocol.specs.Client.{Slot, is_worn, entry_of}
+use Rattle.rc_protocol.specs.Client.{is_worn, entry_of}
 use Rattle.rc_claims.specs.Calm.{Touched, written}
 use Rattle.rc_calm_batches.proofs.Puts.{put_found, put_other, key_same, key_eq_of, same_key_or_not}
 use Rattle.rc_calm_batches.proofs.Slots.{fill, fills}

@@ -18,7 +18,7 @@ use Rattle.rc_runs.specs.Votes.{ordered}
 use Rattle.rc_report.specs.declared.fault.Which.TheVariants.{Ballots}
 use Rattle.rc_runs.specs.Refusals.{worn_out, limit_of}
 use Rattle.rc_runs.specs.World.{Parties, Start, Deed, Idle, ByClient, ByCoord, ByShard, received, parties_after, replaced, new_start, sends_of, lines_of, envelopes}
-use Rattle.rc_calm_batches.specs.Passes.{deed_of, Turned}
+use Rattle.rc_calm_batches.proofs.Passes.{deed_of, Turned}
 use Rattle.rc_calm_batches.proofs.Coords.{Coords, coords_set}
 use Rattle.rc_calm_batches.proofs.Stages.{Shards, shards_set, is_a_dc}
 use Rattle.rc_calm_batches.proofs.ReadTurns.{found_set, twice_set}

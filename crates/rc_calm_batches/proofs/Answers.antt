@@ -18,7 +18,7 @@ use Rattle.rc_protocol.specs.Nodes.{CoordNode, ShardNode, coord_after, is_vote}
 use Rattle.rc_runs.specs.Votes.{is_listed, ordered}
 use Rattle.rc_runs.specs.World.{Parties, envelopes}
 use Rattle.rc_report.specs.declared.line.Line.{Line}
-use Rattle.rc_calm_batches.specs.Passes.{Turned, Turns, each, after_all, sent_by, printed_by}
+use Rattle.rc_calm_batches.proofs.Passes.{Turned, Turns, each, after_all, sent_by, printed_by}
 use Rattle.rc_calm_batches.proofs.Sizes.{Ready}
 use Rattle.rc_calm_batches.proofs.Batches.{after_both, sent_both, printed_both, lasting_both, loop}
 use Rattle.rc_calm_batches.proofs.Stages.{inside}

@@ -1,11 +1,10 @@
 -- Batches: one after another, and in loops.
-use Rattle.std.proofs.Common.{◌≡◌, ℕ, zero, suc, ◌+◌, ◌≤◌, List, [], ◌∷◌, ◌++◌, refl, sym, ap, ◌∙◌, subst, arith}
-use Rattle.std.specs.Prelude.{length}
+use Rattle.std.proofs.Common.{◌≡◌, ℕ, zero, suc, ◌≤◌, List, [], ◌∷◌, ◌++◌, refl, sym, ap, ◌∙◌, subst, arith}
 use Rattle.std.proofs.lemmas.List.{append-nil, append_assoc}
 use Rattle.rc_msg.specs.declared.msg.Envelope.{Envelope}
 use Rattle.rc_report.specs.declared.line.Line.{Line}
 use Rattle.rc_runs.specs.World.{Parties, parties_after, envelopes, sends_of, lines_of}
-use Rattle.rc_calm_batches.specs.Passes.{deed_of, after_all, sent_by, printed_by, Lasting, Drains, Next, Turns, each}
+use Rattle.rc_calm_batches.proofs.Passes.{deed_of, after_all, sent_by, printed_by, Lasting, Drains, Next, Turns, each}
 
 -- ONE AFTER ANOTHER
 pub after_both : (p : Parties) (a b : List Envelope) → after_all p (a ++ b) ≡ after_all (after_all p a) b

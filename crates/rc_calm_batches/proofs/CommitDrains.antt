@@ -16,7 +16,7 @@ use Rattle.rc_protocol.specs.Coordinator.{has_all}
 use Rattle.rc_protocol.specs.Nodes.{ShardNode}
 use Rattle.rc_runs.specs.Votes.{is_listed}
 use Rattle.rc_runs.specs.World.{Parties, bytes_of}
-use Rattle.rc_calm_batches.specs.Passes.{Drains, Empty, Turned, Turns, after_all, each}
+use Rattle.rc_calm_batches.proofs.Passes.{Drains, Empty, Turned, Turns, after_all, each}
 use Rattle.rc_calm_batches.proofs.Sizes.{Ready}
 use Rattle.rc_calm_batches.proofs.Batches.{both, batches_drain}
 use Rattle.rc_calm_batches.proofs.Weights.{Light, light_both, light_each, light_if, light_none, weigh, propose_bytes, prepare_bytes, prepared_bytes, vote_bytes, told_bytes, finish_bytes}

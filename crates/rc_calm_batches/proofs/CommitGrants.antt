@@ -12,7 +12,7 @@ use Rattle.rc_protocol.specs.Messages.{Posts, client_of, shard_server}
 use Rattle.rc_serial.specs.OneMap.{Map}
 use Rattle.rc_protocol.specs.Client.{Client, ClientAct, Slot, UnderWay, Complete, slot_of, with_read, reads_on, client_row, client_stays, cancels, cancel_to, granted_by, proposes_once_read}
 use Rattle.rc_runs.specs.World.{Parties, envelopes}
-use Rattle.rc_calm_batches.specs.Passes.{Turned, Turns, after_all, each}
+use Rattle.rc_calm_batches.proofs.Passes.{Turned, Turns, after_all, each}
 use Rattle.rc_calm_batches.proofs.Batches.{loop}
 use Rattle.rc_calm_batches.proofs.Grants.{grants, granted_up, best_up}
 use Rattle.rc_calm_batches.proofs.Reading.{reading, finished, keeps, slot_of_set, set_twice, wanted}

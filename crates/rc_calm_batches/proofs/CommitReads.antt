@@ -16,7 +16,7 @@ use Rattle.rc_protocol.specs.Messages.{Posts, client_of, shard_server, one, to_a
 use Rattle.rc_serial.specs.OneMap.{Map}
 use Rattle.rc_protocol.specs.Client.{Client, Slot, Committing, Proposed, NotRead, UnderWay, Complete, slot_of, with_slots, with_read, client_row, client_stays, client_says, proposes_once_read, asks, asks_all, is_worn, body_of}
 use Rattle.rc_runs.specs.World.{Parties, with_client, envelopes}
-use Rattle.rc_calm_batches.specs.Passes.{Turned, Turns, each}
+use Rattle.rc_calm_batches.proofs.Passes.{Turned, Turns, each}
 use Rattle.rc_calm_batches.proofs.Batches.{both}
 use Rattle.rc_calm_batches.proofs.Stages.{asks_turn, cancels_turn}
 use Rattle.rc_calm_batches.proofs.ReadTurns.{With}

@@ -19,9 +19,9 @@ use Rattle.rc_protocol.specs.Client.{Client, Slot, body_of, is_worn}
 use Rattle.rc_protocol.specs.Nodes.{CoordNode}
 use Rattle.rc_runs.specs.Votes.{is_listed}
 use Rattle.rc_runs.specs.World.{Parties, new_start, envelopes, bytes_of}
-use Rattle.rc_calm_batches.specs.Passes.{Drains, after_all, each}
+use Rattle.rc_calm_batches.proofs.Passes.{Drains, after_all, each}
 use Rattle.rc_calm_batches.proofs.Sizes.{Ready}
-use Rattle.rc_calm_batches.proofs.Weights.{Light, light_each, light_unless, light_some, bytes_both, ask_bytes, cancel_bytes, grant_bytes}
+use Rattle.rc_calm_batches.proofs.Weights.{light_each, light_unless, light_some, bytes_both, ask_bytes, cancel_bytes, grant_bytes}
 use Rattle.rc_calm_batches.proofs.ReadTurns.{With}
 use Rattle.rc_calm_batches.proofs.ReadDrains.{env_each, length_both, length_ones, length_rest}
 use Rattle.rc_calm_batches.proofs.Quorums.{IsLeast}

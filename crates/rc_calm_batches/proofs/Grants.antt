@@ -8,7 +8,7 @@ use Rattle.std.specs.Cmp.{nat_cmp_is}
 use Rattle.std.proofs.lemmas.Bool.{le-ltb}
 use Rattle.rc_ids.specs.Tables.{In, up_to, added, member}
 use Rattle.rc_protocol.specs.Client.{Grant, granted_by, best_grant}
-use Rattle.rc_calm_batches.specs.Passes.{each}
+use Rattle.rc_calm_batches.proofs.Passes.{each}
 
 -- NUMBERS IN ORDER
 pub greater : (a b : ℕ) → b < a → nat_cmp a b ≡ Greater

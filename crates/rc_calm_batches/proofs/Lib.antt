@@ -1,4 +1,5 @@
 -- Lemmas on batches.
+pub mod Passes
 pub mod Batches
 pub mod Sizes
 pub mod Indices

@@ -20,7 +20,7 @@ use Rattle.rc_protocol.specs.Shard.{ShardAct, Mark, first_reason, locked, lost_b
 use Rattle.rc_protocol.specs.Nodes.{CoordNode, ShardNode, shard_after}
 use Rattle.rc_protocol.specs.Client.{Client}
 use Rattle.rc_runs.specs.World.{Parties, envelopes}
-use Rattle.rc_calm_batches.specs.Passes.{Turns, each}
+use Rattle.rc_calm_batches.proofs.Passes.{Turns, each}
 use Rattle.rc_calm_batches.proofs.Sizes.{Ready, log_bytes, bytes_end, most_frame}
 use Rattle.rc_calm_batches.proofs.Stages.{AtRest, in_filter}
 use Rattle.rc_calm_batches.proofs.Acting.{Stage, shard_act}

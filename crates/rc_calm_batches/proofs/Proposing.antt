@@ -18,7 +18,7 @@ use Rattle.rc_protocol.specs.Coordinator.{CoordAct, new_volatile, coord_says, ac
 use Rattle.rc_protocol.specs.Nodes.{CoordNode, ShardNode, coord_after, is_vote}
 use Rattle.rc_runs.specs.Votes.{is_listed, ordered}
 use Rattle.rc_runs.specs.World.{Parties, envelopes}
-use Rattle.rc_calm_batches.specs.Passes.{Turns, each}
+use Rattle.rc_calm_batches.proofs.Passes.{Turns, each}
 use Rattle.rc_calm_batches.proofs.Sizes.{Ready}
 use Rattle.rc_calm_batches.proofs.Quorums.{IsLeast}
 use Rattle.rc_calm_batches.proofs.ReadDrains.{env_both, env_each, same_each}

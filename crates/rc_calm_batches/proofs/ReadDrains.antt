@@ -20,7 +20,7 @@ use Rattle.rc_protocol.specs.Messages.{Posts, client_of, shard_server, to_each, 
 use Rattle.rc_serial.specs.OneMap.{Map}
 use Rattle.rc_protocol.specs.Client.{Client, Slot, slot_of, reads_on, is_committing, asks, cancels, cancel_to, granted_by}
 use Rattle.rc_runs.specs.World.{Parties, with_client, envelopes}
-use Rattle.rc_calm_batches.specs.Passes.{after_all, Drains, Empty, Turned, Turns, each}
+use Rattle.rc_calm_batches.proofs.Passes.{after_all, Drains, Empty, Turned, Turns, each}
 use Rattle.rc_calm_batches.proofs.Batches.{batches_drain}
 use Rattle.rc_calm_batches.proofs.Stages.{asks_turn, cancels_turn}
 use Rattle.rc_calm_batches.proofs.Grants.{grants, granted_up}

@@ -19,7 +19,7 @@ use Rattle.rc_serial.specs.OneMap.{Map}
 use Rattle.rc_protocol.specs.Client.{Client, ClientAct, ClientRefusal, Slot, slot_of, reads_on, is_committing, client_row, client_stays, cancels}
 use Rattle.rc_runs.specs.Refusals.{worn_out, limit_of}
 use Rattle.rc_runs.specs.World.{Parties, Deed, Idle, ByClient, received, parties_after, replaced, with_client, sends_of, lines_of, envelopes}
-use Rattle.rc_calm_batches.specs.Passes.{deed_of, after_all, Turned, Turns, each}
+use Rattle.rc_calm_batches.proofs.Passes.{deed_of, after_all, Turned, Turns, each}
 use Rattle.rc_calm_batches.proofs.Batches.{loop}
 use Rattle.rc_calm_batches.proofs.Stages.{Rests, is_a_dc}
 use Rattle.rc_calm_batches.proofs.Grants.{grants}

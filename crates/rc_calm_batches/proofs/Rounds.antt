@@ -10,7 +10,7 @@ use Rattle.rc_protocol.specs.Client.{Client}
 use Rattle.rc_protocol.specs.Nodes.{CoordNode, ShardNode, coord_after, shard_after}
 use Rattle.rc_runs.specs.Votes.{ordered}
 use Rattle.rc_runs.specs.World.{Parties, envelopes}
-use Rattle.rc_calm_batches.specs.Passes.{Turned, Turns, each}
+use Rattle.rc_calm_batches.proofs.Passes.{Turned, Turns, each}
 use Rattle.rc_calm_batches.proofs.Batches.{loop}
 use Rattle.rc_calm_batches.proofs.Indices.{compare}
 use Rattle.rc_calm_batches.proofs.Stages.{Shards, same_or_not}

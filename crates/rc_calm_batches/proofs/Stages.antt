@@ -19,7 +19,7 @@ use Rattle.rc_protocol.specs.Shard.{ShardAct, shard_row, on_read_ask, on_read_ca
 use Rattle.rc_protocol.specs.Nodes.{ShardNode, shard_index, shard_after}
 use Rattle.rc_runs.specs.Refusals.{worn_out}
 use Rattle.rc_runs.specs.World.{Parties, Deed, ByShard, parties_after, shard_at, with_shard, sends_of, lines_of, envelopes}
-use Rattle.rc_calm_batches.specs.Passes.{deed_of, Turned, Turns, each}
+use Rattle.rc_calm_batches.proofs.Passes.{deed_of, Turned, Turns, each}
 use Rattle.rc_calm_batches.proofs.Sizes.{log_bytes, most_frame}
 use Rattle.rc_calm_batches.proofs.Indices.{get_set_same, get_set_other, index_same, compare}
 use Rattle.rc_calm_batches.proofs.Batches.{loop}
@@ -200,7 +200,7 @@ module _ (b : Parties) (m : Map) (over : List ℕ) (t : ℕ) (keys : List (List 
       (λ x r. ap (λ (a : ShardAct). envelopes (shard_server (suc i) (shard_of b.layout k)) a.sends) (ask_is b.layout m over t keys k (suc i) x r fresh)
       ∙ ap (λ (g : Party × Msg). envelopes (shard_server (suc i) (shard_of b.layout k)) (g ∷ [])) (granted_is b.layout m over t keys k (suc i) x r)))
 
-  -- cancels from place q on
+  -- cancels to the datacentres behind q
   pub cancels_turn : (q n : ℕ) → n ≤ b.layout.dcs
       → Turns (Rests b m over t keys) (each n (λ d. if nat_le d q then [] else to_shard d (ReadCancel t k) ∷ [])) (Rests b m over t keys) (each n (λ d. [])) (each n (λ d. []))
   cancels_turn q = loop b.layout.dcs (λ i. Rests b m over t keys) (λ d. if nat_le d q then [] else to_shard d (ReadCancel t k) ∷ []) (λ d. []) (λ d. []) (λ i le p h. by i le p h (nat_le (suc i) q))

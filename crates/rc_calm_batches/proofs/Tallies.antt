@@ -20,7 +20,7 @@ use Rattle.rc_protocol.specs.Coordinator.{CoordAct, new_volatile, coord_stays, c
 use Rattle.rc_protocol.specs.Nodes.{CoordNode, coord_after, is_vote}
 use Rattle.rc_runs.specs.Votes.{ordered}
 use Rattle.rc_runs.specs.World.{Parties, envelopes}
-use Rattle.rc_calm_batches.specs.Passes.{each}
+use Rattle.rc_calm_batches.proofs.Passes.{each}
 use Rattle.rc_calm_batches.proofs.Sizes.{Ready, bytes_end}
 use Rattle.rc_calm_batches.proofs.Grants.{added_up}
 use Rattle.rc_calm_batches.proofs.Quorums.{IsLeast}

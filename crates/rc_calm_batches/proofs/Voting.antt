@@ -18,7 +18,7 @@ use Rattle.rc_protocol.specs.Client.{Client, ClientAct, Done, Proposed, Slot, cl
 use Rattle.rc_protocol.specs.Nodes.{ShardNode, coord_after}
 use Rattle.rc_runs.specs.World.{Parties, envelopes}
 use Rattle.rc_runs.specs.Votes.{ordered}
-use Rattle.rc_calm_batches.specs.Passes.{Turned, Turns, after_all, each}
+use Rattle.rc_calm_batches.proofs.Passes.{Turned, Turns, after_all, each}
 use Rattle.rc_calm_batches.proofs.Sizes.{Ready}
 use Rattle.rc_calm_batches.proofs.Batches.{both, loop}
 use Rattle.rc_calm_batches.proofs.Stages.{is_a_dc}

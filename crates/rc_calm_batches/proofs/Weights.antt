@@ -1,21 +1,20 @@
 -- How many bytes the messages of a read and of a commit have.
-use Rattle.std.proofs.Common.{◌≡◌, ℕ, zero, suc, ◌+◌, ◌*◌, ◌≤◌, List, [], ◌∷◌, ◌++◌, refl, sym, ap, ◌∙◌, subst, arith, Bool, true, false, cond, Option, Some, None}
+use Rattle.std.proofs.Common.{◌≡◌, ℕ, zero, suc, ◌+◌, ◌*◌, ◌≤◌, List, [], ◌∷◌, ◌++◌, refl, ap, ◌∙◌, arith, Bool, true, false, cond, Option, None}
 use Rattle.std.specs.Prelude.{length, if◌then◌else◌, ◌==◌, ◌-◌, nat_le}
 use Rattle.std.specs.List.{flat_map}
 use Rattle.std.proofs.lemmas.List.Sums.{sum_by-cons, sum_by-append}
 use Rattle.rc_ids.specs.Cluster.{Layout, shard_of}
-use Rattle.rc_ids.specs.declared.names.Party.{Party}
 use Rattle.rc_fields.specs.Spelling.{u8_bytes, u64_bytes}
 use Rattle.rc_body.specs.Bodies.{part}
-use Rattle.rc_body.specs.Spelling.{held_bytes, entry_bytes, body_bytes, decision_bytes}
+use Rattle.rc_body.specs.Spelling.{held_bytes, entry_bytes, body_bytes}
 use Rattle.rc_body.specs.declared.entry.Entry.{Entry}
 use Rattle.rc_body.specs.declared.decision.Decision.TheVariants.{Commit}
 use Rattle.rc_msg.specs.declared.msg.Envelope.{Envelope}
 use Rattle.rc_msg.specs.declared.msg.Msg.TheVariants.{ReadAsk, ReadCancel, Granted, Propose, Prepare, Prepared, Voted, Finish}
-use Rattle.rc_msg.specs.Spelling.{envelope_bytes, msg_bytes}
+use Rattle.rc_msg.specs.Spelling.{envelope_bytes}
 use Rattle.rc_protocol.specs.Messages.{client_of, coordinator, shard_server}
 use Rattle.rc_runs.specs.World.{bytes_of}
-use Rattle.rc_calm_batches.specs.Passes.{each}
+use Rattle.rc_calm_batches.proofs.Passes.{each}
 use Rattle.rc_calm_batches.proofs.ReadDrains.{length_both, length_ones, length_rest}
 
 pub bytes_cons : (e : Envelope) (es : List Envelope) → bytes_of (e ∷ es) ≡ length (envelope_bytes e) + bytes_of es
@@ -81,9 +80,9 @@ grant_bytes t k d s version value h v =
 -- all of a read
 pub read_bytes : (n q t : ℕ) (k : List ℕ) (s version : ℕ) (value : Option (List ℕ)) → n ≤ 7 → length k ≤ 64 → length (held_bytes value) ≤ 1027
     → bytes_of
-      (each n (λ d. record { from = client_of t; to = shard_server d s; msg = ReadAsk t k } ∷ [])
-      ++ (each n (λ d. record { from = shard_server d s; to = client_of t; msg = Granted t k d version value } ∷ [])
-      ++ (each n (λ d. if nat_le d q then [] else record { from = client_of t; to = shard_server d s; msg = ReadCancel t k } ∷ []) ++ []))) ≤ 9800
+    (each n (λ d. record { from = client_of t; to = shard_server d s; msg = ReadAsk t k } ∷ [])
+    ++ (each n (λ d. record { from = shard_server d s; to = client_of t; msg = Granted t k d version value } ∷ [])
+    ++ (each n (λ d. if nat_le d q then [] else record { from = client_of t; to = shard_server d s; msg = ReadCancel t k } ∷ []) ++ []))) ≤ 9800
 read_bytes n q t k s version value few h v =
     let asks = each n (λ d. record { from = client_of t; to = shard_server d s; msg = ReadAsk t k } ∷ []) in
     let grants = each n (λ d. record { from = shard_server d s; to = client_of t; msg = Granted t k d version value } ∷ []) in

@@ -1,5 +1,5 @@
 -- The net as a queue: messages delivered one after another, and batches of them.
-use Rattle.std.specs.Prelude.{◌≡◌, ℕ, zero, suc, List, [], ◌∷◌, ◌++◌, Option, None}
+use Rattle.std.specs.Prelude.{◌≡◌, ℕ, zero, suc, List, [], ◌∷◌, ◌++◌, None}
 use Rattle.rc_msg.specs.declared.msg.Envelope.{Envelope}
 use Rattle.rc_report.specs.declared.line.Line.{Line}
 use Rattle.rc_runs.specs.Refusals.{worn_out}
