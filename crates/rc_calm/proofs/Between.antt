@@ -25,8 +25,7 @@ use Rattle.rc_calm_batches.proofs.ReadTurns.{found_set}
 use Rattle.rc_calm.proofs.Queue.{Queued}
 use Rattle.rc_calm.proofs.Frames.{Short}
 use Rattle.rc_calm.proofs.Logs.{Fit, HasRoom}
-use Rattle.rc_calm.proofs.Room.{short, coords_room, shards_room}
-use Rattle.rc_calm.proofs.Rested.{Complete}
+use Rattle.rc_calm.proofs.Room.{Complete, short, coords_room, shards_room}
 use Rattle.rc_calm.proofs.Touching.{slots_from, OnceTouched}
 use Rattle.rc_calm.proofs.Touches.{keys_of, InRange}
 use Rattle.rc_calm.proofs.Counts.{Used}

@@ -7,7 +7,6 @@ pub mod Unreads
 pub mod Touching
 pub mod Counts
 pub mod Room
-pub mod Rested
 pub mod Commands
 pub mod Layouts
 pub mod Frames

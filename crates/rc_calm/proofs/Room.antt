@@ -84,3 +84,8 @@ shards_room S p len all h i y at =
     let z = all k.d k.s k.d1 k.d2 k.s1 k.s2 in
     let there : slice_get p.shards i ≡ Some z.0 = ap (slice_get p.shards) k.is ∙ (sym (shard_is p k.d k.s k.d1 k.d2 k.s1 k.s2) ∙ z.1) in
     subst (λ (w : ShardNode). 701 + log_bytes w.log ≤ most_log_bytes) (some_is z.0 y (sym there ∙ at)) (h k.d k.s z.0 z.2)
+
+-- all nodes of the layout are there, and no others
+pub record Complete (c : Layout) (p : Parties) : Type 0 where
+  pub coords : length p.coords ≡ c.dcs
+  pub shards : length p.shards ≡ c.dcs * c.shards

@@ -197,12 +197,6 @@ module _ (D : Session → Parties → Type 0)
     abbrev after : Session
     after = stepped z ev takes_it.session (named z.world e q h) takes_it.course takes_it.change
 
-    -- what was pending and is not any more
-    all_pending : (length new ≤ length ds) × (bytes_of new ≤ bytes_of ds)
-    all_pending =
-        let a = drains_all _ _ _ _ _ rest in let a0 = a.0 in let a1 = a.1 in
-        let l = length_both q new in let b = bytes_both q new in (omega (arith, a0, l), omega (arith, a1, b))
-
     no_limit_here : DrainRoom z (e ∷ q) (e ∷ ds) ((now ++ ls) ++ Settled (count + length (e ∷ ds)) ∷ []) → limit z.world ev Goes ≡ None
     no_limit_here m =
         let a = drains_all _ _ _ _ _ rest in let a0 = a.0 in let a1 = a.1 in

@@ -163,12 +163,6 @@ module _ (b : Parties) (m : Map) (over : List ℕ) (t : ℕ) (body : List Entry)
         a : Agree c s x.durable.rows next_map
         a = subst (λ (p : List Entry). Agree c s (set_rows x.durable.rows p) next_map) (no_part c s body far) (rows_follow c s body x.durable.rows m (record { version = r.version; value = r.value }) fits)
 
-    finished_act : ℕ → ℕ → ShardNode → ShardAct
-    finished_act d s x = shard_act b d s (finish d s) x
-
-    finish_logs : (d s : ℕ) (x : ShardNode) → Holds c m over t body s x → (shard_act b d s (finish d s) x).logs ≡ Some (Finished ((t, Commit (part c s body)) ∷ []))
-    finish_logs d s x r = let f = r.finished t fresh.new in rw f
-
     finish_says : (d s : ℕ) (x : ShardNode) → Holds c m over t body s x → (shard_act b d s (finish d s) x).sends ≡ []
     finish_says d s x r = let f = r.finished t fresh.new in let w = r.waiting in rw (f, w)
 
