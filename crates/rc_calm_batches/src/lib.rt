@@ -1,0 +1,2 @@
+//! Batches of messages among parties at rest: a whole read and a whole commit, delivered in the order sent.
+#![tactic(auto)]
