@@ -1,16 +1,14 @@
 -- What is done where a gather is kept, and where it is complete.
-use Rattle.std.proofs.Common.{◌≡◌, ℕ, nat_lt, Bool, true, false, if◌then◌else◌, List, [], Option, Some, None, refl, sym, ap, subst, ◌∙◌}
+use Rattle.std.proofs.Common.{◌≡◌, ℕ, nat_lt, Bool, true, false, if◌then◌else◌, List, None, refl, sym, ap, subst, ◌∙◌}
 use Rattle.std.specs.Ordering.{nat_cmp}
 use Rattle.rc_ids.specs.Tables.{Table, put}
 use Rattle.rc_ids.specs.Cluster.{Layout}
 use Rattle.rc_body.specs.declared.decision.Decision.{Decision}
 use Rattle.rc_body.specs.declared.decision.Decision.TheVariants.{Commit}
 use Rattle.rc_body.specs.declared.reason.Reason.TheVariants.{Promised as PromisedHigher}
-use Rattle.rc_log.specs.Journals.{State}
 use Rattle.rc_msg.specs.Outboxes.{Outbox}
 use Rattle.rc_msg.specs.Posts.{posted_all}
-use Rattle.rc_record.specs.declared.record.Record.{Record}
-use Rattle.rc_protocol.specs.Messages.{Posts, to_each}
+use Rattle.rc_protocol.specs.Messages.{to_each}
 use Rattle.rc_protocol.specs.Coordinator.{GatherState, CoordDurable, CoordVolatile, CoordAct, promise_of, with_yes, on_prepared, coord_stays, coord_says, has_all, with_gather, accepts, refuses, gathers_on, prepare_to}
 use Rattle.rc_node.specs.declared.fault.NodeFault.{NodeFault}
 use Rattle.rc_node.specs.Acts.{Site, Acts, Refuses, coord_does}

@@ -1,8 +1,7 @@
 -- The rows of a proposal and of a shard's answer, by the gathers that are kept.
-use Rattle.std.proofs.Common.{◌≡◌, ℕ, ◌≤◌, ◌==◌, max, IsTrue, Bool, true, false, not, ◌&&◌, if◌then◌else◌, nat_lt, List, [], ◌∷◌, Option, Some, None, is_some, refl, sym, ap, subst, ◌∙◌, arith}
+use Rattle.std.proofs.Common.{◌≡◌, ℕ, ◌≤◌, max, IsTrue, Bool, true, false, not, ◌&&◌, if◌then◌else◌, List, [], Option, Some, None, is_some, refl, sym, ap, ◌∙◌, arith}
 use Rattle.std.specs.Ordering.{nat_cmp}
 use Rattle.std.specs.Option.{option_map}
-use Rattle.std.specs.List.{list_all}
 use Rattle.rc_ids.specs.Tables.{Table, found, put, maybe, member}
 use Rattle.rc_ids.specs.Cluster.{Layout, is_shard}
 use Rattle.rc_body.specs.Bodies.{touches, touched}
@@ -11,7 +10,7 @@ use Rattle.rc_body.specs.declared.decision.Decision.{Decision}
 use Rattle.rc_body.specs.declared.decision.Decision.TheVariants.{Commit, Abort}
 use Rattle.rc_body.specs.declared.reason.Reason.{Reason}
 use Rattle.rc_protocol.specs.Coordinator.{GatherState, CoordDurable, CoordVolatile, outcome_of, waiting_gather, with_yes, said_yes, on_prepared, coord_stays, refuses}
-use Rattle.rc_vote.specs.Gathers.{ShardGather, shard_gather, by_shards, waits_for, with_shard, after_answer, is_complete, raised}
+use Rattle.rc_vote.specs.Gathers.{ShardGather, shard_gather, by_shards, waits_for, with_shard, after_answer, raised}
 use Rattle.rc_vote.proofs.GatherFacts.{is_gather}
 use Rattle.rc_coord_tables.specs.Maps.{mapped}
 use Rattle.rc_coord_tables.specs.Gathers.{GatherTable, AreOf, answered, answered_in, asked_again, asked_at}

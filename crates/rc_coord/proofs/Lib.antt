@@ -2,8 +2,10 @@
 mod ActFacts
 mod GatherActs
 mod GatherRows
+mod OpenFacts
 mod PageRows
 mod PostFacts
+mod PreparedFacts
 mod PromiseFacts
 mod RowFacts
 mod ReplayFacts

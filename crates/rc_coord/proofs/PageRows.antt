@@ -1,10 +1,8 @@
 -- The row of a page of outcomes.
-use Rattle.std.proofs.Common.{◌≡◌, ℕ, ◌+◌, ◌≤◌, ◌<◌, ◌==◌, ◌&&◌, not, nat_lt, ◌^◌, false, true, Bool, cond, List, [], ◌∷◌, ◌++◌, length, take, drop, slice_get, Option, None, Some, is_none, if◌then◌else◌, refl, sym, ap, subst, ◌∙◌, arith}
+use Rattle.std.proofs.Common.{◌≡◌, ℕ, ◌+◌, ◌≤◌, ◌<◌, ◌==◌, not, false, true, Bool, cond, List, [], ◌∷◌, ◌++◌, length, take, slice_get, Option, None, Some, is_none, if◌then◌else◌, refl, sym, ap, subst, ◌∙◌, arith}
 use Rattle.std.specs.Ordering.{nat_cmp, is_eq}
-use Rattle.std.specs.List.{filter}
 use Rattle.std.proofs.lemmas.Bool.{or_parts}
 use Rattle.std.proofs.lemmas.List.{length-take}
-use Rattle.rc_ids.specs.Tables.{found}
 use Rattle.rc_ids.specs.Cluster.{Layout}
 use Rattle.rc_body.specs.declared.decision.Decision.{Decision}
 use Rattle.rc_body.specs.Pages.{has_tx, TxsDiffer, IsPage}

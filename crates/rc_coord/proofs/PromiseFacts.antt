@@ -1,5 +1,5 @@
 -- The row of a promise is what the take-over that is kept does.
-use Rattle.std.proofs.Common.{◌≡◌, ℕ, ◌==◌, Bool, true, false, not, ◌&&◌, if◌then◌else◌, List, [], ◌∷◌, Option, Some, None, refl, sym, ap, subst, ◌∙◌, arith}
+use Rattle.std.proofs.Common.{◌≡◌, ℕ, ◌==◌, Bool, true, false, not, ◌&&◌, if◌then◌else◌, List, [], Option, Some, None, refl, sym, ap, subst, ◌∙◌, arith}
 use Rattle.std.specs.Ordering.{nat_cmp}
 use Rattle.rc_ids.specs.Tables.{Table, found, put, maybe, member}
 use Rattle.rc_ids.specs.Cluster.{Layout}
@@ -35,7 +35,7 @@ proposes-said c t b abort (Some o) is = cc
 proposes-said c t b (reported d) None is = absurd cc
 proposes-said c t b (reported d) (Some o) is = cc
 
-abbrev with_takeovers : CoordVolatile → Table ℕ TakeoverState → CoordVolatile
+abbrev pub with_takeovers : CoordVolatile → Table ℕ TakeoverState → CoordVolatile
 with_takeovers v table = record { gathers = v.gathers; takeovers = table; votes = v.votes; cursors = v.cursors }
 
 module _ (c : Layout) (s : CoordDurable) (v : CoordVolatile) (t b from : ℕ) (report : Option (ℕ × Decision)) (before after : Outbox) where

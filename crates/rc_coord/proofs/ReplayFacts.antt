@@ -1,5 +1,5 @@
 -- A journal whose records give the durable state back still does after an act: one step of a replay at a time.
-use Rattle.std.proofs.Common.{◌≡◌, ℕ, suc, ◌≤◌, ◌==◌, IsTrue, Bool, true, false, ◌&&◌, ◌||◌, List, [], ◌∷◌, ◌++◌, Option, None, Some, Result, Ok, Err, refl, sym, ap, subst, ◌∙◌, arith}
+use Rattle.std.proofs.Common.{◌≡◌, ℕ, suc, ◌≤◌, ◌==◌, IsTrue, false, ◌&&◌, ◌||◌, List, [], ◌∷◌, ◌++◌, Option, None, Some, Result, Ok, Err, refl, sym, ap, subst, ◌∙◌, arith}
 use Rattle.std.specs.Prelude.{if◌then◌else◌, IfSome}
 use Rattle.std.specs.Option.{option_map}
 use Rattle.rc_ids.specs.declared.names.NodeId.{NodeId}
@@ -12,7 +12,7 @@ use Rattle.rc_record.specs.declared.record.Record.{Record}
 use Rattle.rc_record.specs.declared.record.Record.TheVariants.{Head, Prepared, Finished, Promised, Accepted, Decided}
 use Rattle.rc_record.specs.Kinds.{has_gone, is_coord_record}
 use Rattle.rc_record.specs.Reading.{decoded}
-use Rattle.rc_record.specs.Replay.{on_ok, coord_step, coord_from, coord_replay, format_behind}
+use Rattle.rc_record.specs.Replay.{on_ok, coord_step, coord_from, format_behind}
 use Rattle.rc_record.specs.CoordState.{CoordDurable, new_durable, coord_applied}
 use Rattle.rc_record.specs.Spelling.{record_bytes, HasRecord}
 use Rattle.rc_protocol.specs.Nodes.{applied}

@@ -10,8 +10,11 @@ use Rattle.rc_body.specs.declared.reason.Reason.TheVariants.{Promised as Promise
 use Rattle.rc_msg.specs.declared.msg.Msg.{Msg}
 use Rattle.rc_msg.specs.declared.msg.Msg.TheVariants.{Propose, Prepared, Ask, Promise, Voted, Refused, Decided, Abandon, CatchAsk, CatchPage}
 use Rattle.rc_msg.specs.Posts.{posted_all}
+use Rattle.rc_record.specs.declared.record.Record.{Record}
 use Rattle.rc_record.specs.declared.record.Record.TheVariants.{Decided as OutcomesDecided}
-use Rattle.rc_node.specs.Acts.{View}
+use Rattle.rc_log.specs.Journals.{State}
+use Rattle.rc_node.specs.declared.fault.NodeFault.{NodeFault}
+use Rattle.rc_node.specs.Acts.{NodeAct, View, Stays}
 use Rattle.rc_protocol.specs.Messages.{Posts, to_all, client_of, coordinator, one}
 use Rattle.rc_protocol.specs.Coordinator.{GatherState, CoordDurable, CoordVolatile, CoordAct, coord_says, promises_at, if_decided, tells, takes_over, promise_of, outcome_of, waiting_gather, waiting_takeover, is_next_coord_page, forgotten_all, finish_all_posts, with_coord_cursor}
 use Rattle.rc_vote.specs.Gathers.{ShardGather}
@@ -72,6 +75,14 @@ asks_open c d s v t b =
 -- a transaction is taken over by this command or at its client's message: on_abandon is the patient one, do_take the eager one
 abbrev pub takes : Layout → ℕ → CoordDurable → CoordVolatile → ℕ → Bool → CoordAct
 takes c d s v t is_eager = if_decided s t (tells v (client_of t) t) (takes_over c d s v t is_eager)
+
+-- an act of which only the record matters
+abbrev pub only_logs : Record → NodeAct (Unit {0}) (Unit {0})
+only_logs r = record { logs = Some r; durable = tt; volatile = tt; sends = []; spent = false }
+
+-- what a fault says of the journal that this record was to enter
+abbrev pub StaysAt : NodeFault → (List ℕ → Type 0) → State → State → Record → Type 0
+StaysAt fault may_leave old new r = Stays fault may_leave old new (only_logs r)
 
 -- the messages at which nothing can want memory: the rows ignore them
 abbrev pub needs_none : Layout → ℕ → CoordDurable → CoordVolatile → Msg → Bool

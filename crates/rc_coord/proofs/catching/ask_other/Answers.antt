@@ -1,4 +1,4 @@
-use Rattle.std.proofs.Common.{◌≡◌, ℕ, ◌==◌, not, Bool, true, false, [], if◌then◌else◌, sym, ap, ◌∙◌}
+use Rattle.std.proofs.Common.{ℕ, ◌==◌, Bool, [], if◌then◌else◌, sym, ap, ◌∙◌}
 use Rattle.rc_msg.specs.declared.msg.Msg.TheVariants.{CatchAsk}
 use Rattle.rc_msg.specs.Posts.{posted_all}
 use Rattle.rc_protocol.specs.Messages.{one, coordinator}

@@ -1,5 +1,5 @@
 use Rattle.rc_msg.proofs.PostFacts.{Grows-trans}
-use Rattle.rc_coord.proofs.PostFacts.{finishes-next, finishes-end}
+use Rattle.rc_coord.proofs.PostFacts.{finishes-next}
 use Rattle.rc_coord.proofs.pages.post_learned.Goals as goal
 
 pub loop-index-preserved : goal.loop-index-preserved

@@ -1,4 +1,4 @@
-use Rattle.std.proofs.Common.{◌≡◌, ℕ, ◌≤◌, ap, subst, arith}
+use Rattle.std.proofs.Common.{◌≡◌, ◌≤◌, ap, subst, arith}
 use Rattle.std.proofs.lemmas.Result.{on_ok_weaker, IfErr-weaker}
 use Rattle.rc_protocol.specs.Coordinator.{GatherState, CoordDurable, CoordVolatile, gathers_on}
 use Rattle.rc_node.specs.Acts.{Site, Acts, Refuses, coord_does}
