@@ -2,6 +2,7 @@
 mod ActFacts
 mod GatherActs
 mod GatherRows
+mod HandlingFacts
 mod OpenFacts
 mod PageRows
 mod PostFacts
@@ -9,3 +10,4 @@ mod PreparedFacts
 mod PromiseFacts
 mod RowFacts
 mod ReplayFacts
+mod StartFacts

@@ -48,6 +48,15 @@ unfolding AreAbsent
 new-from outcomes [] apart absent = tt
 new-from outcomes (e ∷ es) apart absent = (absent.0, new-from (outcomes ++ e ∷ []) es apart.1 (absent-behind outcomes e es absent.1 apart.0))
 
+absent-none : (es : List (ℕ × Decision)) → AreAbsent [] es
+unfolding AreAbsent
+absent-none [] = tt
+absent-none (e ∷ es) = (refl, absent-none es)
+
+-- where there is none yet, those of transactions that differ are new
+pub differ-new : (es : List (ℕ × Decision)) → TxsDiffer es → AreNew [] es
+differ-new es apart = new-from [] es apart (absent-none es)
+
 absent-undecided : (outcomes page : List (ℕ × Decision)) → AreAbsent outcomes (undecided outcomes page)
 unfolding AreAbsent
 absent-undecided outcomes [] = tt

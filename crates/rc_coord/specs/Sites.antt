@@ -3,8 +3,9 @@ use Rattle.std.specs.Prelude.{◌≡◌, ℕ, Bool, false, IsTrue}
 use Rattle.rc_ids.specs.Cluster.{Layout, is_dc}
 use Rattle.rc_log.specs.Journals.{State}
 use Rattle.rc_msg.specs.Outboxes.{Outbox}
+use Rattle.rc_protocol.specs.Acts.{NodeCause, coord_act}
 use Rattle.rc_protocol.specs.Coordinator.{CoordDurable, CoordVolatile}
-use Rattle.rc_node.specs.Acts.{Site, View}
+use Rattle.rc_node.specs.Acts.{NodeAct, Site, View, coord_does}
 use Rattle.rc_node.specs.Cores.{Core}
 use Rattle.rc_coord_tables.specs.Gathers.{AreOf}
 use Rattle.rc_coord.specs.declared.tables.Tables.{Tables}
@@ -22,8 +23,15 @@ view_of tables out = record { durable = durable_of tables; volatile = volatile_o
 abbrev pub site_of : {J : Type 0} → (J → State) → Store J → Outbox → Site CoordDurable CoordVolatile
 site_of state store out = record { durable = durable_of store.tables; volatile = volatile_of store.tables; journal = state store.journal; out = out }
 
--- a coordinator as its callers see it
-abbrev pub core_of : {J : Type 0} → Layout → ℕ → Store J → Bool → Core ℕ CoordDurable CoordVolatile J
+-- a coordinator as its callers see it; its name is its datacentre
+abbrev pub CoordCore : Type 0 → Type 0
+CoordCore J = Core ℕ CoordDurable CoordVolatile J
+
+-- what the coordinator does at a cause
+abbrev pub act_at : {J : Type 0} → CoordCore J → NodeCause → NodeAct CoordDurable CoordVolatile
+act_at x cause = coord_does x.durable (coord_act x.cluster x.name x.durable x.volatile cause)
+
+abbrev pub core_of : {J : Type 0} → Layout → ℕ → Store J → Bool → CoordCore J
 core_of cluster dc store stopped = record {
   cluster = cluster;
   name = dc;

@@ -5,6 +5,8 @@ mod accepting;
 mod asked;
 mod asking;
 mod catching;
+mod coord;
+mod handling;
 mod home;
 mod laws;
 mod learning;
@@ -14,7 +16,9 @@ mod posting;
 mod preparing;
 mod promising;
 mod proposing;
+mod starting;
 mod tables;
 mod voting;
 
+pub use coord::Coord;
 pub use laws::coord_laws;
