@@ -16,7 +16,7 @@ use Rattle.rc_runs.specs.Farms.{calls_at, reads_at}
 use Rattle.rc_devices.specs.Disks.{AreKept, AreWithin, IsKept, IsShown, ReadsAreShown, IsDisk, IsLog, power_of, calls_made}
 use Rattle.rc_devices.specs.Laws.{IsTold, IsMade, IsFailed, AppendsAreDevices}
 use Rattle.rc_devices.proofs.Numbers.{within_more, within_last}
-use Rattle.rc_devices.proofs.Rows.{all_made, one_failed, failure, counts, same_list, same_reads, same_read_list}
+use Rattle.rc_devices.proofs.Rows.{all_made, one_failed, failure, counts, same_list, same_reads, same_read_list, same_offset}
 
 -- the log is too long for the device exactly where it is for itself
 too_long : (begun : Start) (ended : Told) (old : State) (d : Device) (n : ℕ) → IsLog begun ended old d → would_pass_limit old n ≡ is_too_long d n
@@ -167,6 +167,7 @@ module _ (begun : Start) (ended : Told) (old : State) (d : Device) (r : List ℕ
       record {
         after = cond (is_kept (FailsAt call cause)) (at_offset (calls_made call d) (offset_after d.offset (length r))) (calls_made call d);
         is = in_room begun ended old d (length r) log fits (FailsAt call cause, calls_made call d) row;
+        offset = by_kept (is_kept (FailsAt call cause));
         told = stopped;
         tells = tells;
         disk = record {
@@ -178,6 +179,10 @@ module _ (begun : Start) (ended : Told) (old : State) (d : Device) (r : List ℕ
         };
       }
     where
+      by_kept : (b : Bool) → (cond b (at_offset (calls_made call d) (offset_after d.offset (length r))) (calls_made call d)).offset ≡ cond b (offset_after d.offset (length r)) d.offset
+      by_kept true = refl
+      by_kept false = same_offset call d
+
       at_first : (cut : Option (ℕ × ℕ)) → IsTrue (is_on (power_of cut))
       at_first None = refl
       at_first (Some c) = refl

@@ -1,6 +1,7 @@
 -- Lemmas on disks that tell their calls.
-mod Numbers
-mod ReadNumbers
-mod Rows
-mod Appends
-mod Openings
+pub mod Numbers
+pub mod ReadNumbers
+pub mod Rows
+pub mod Appends
+pub mod Openings
+pub mod Staying

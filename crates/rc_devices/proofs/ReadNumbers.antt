@@ -39,3 +39,7 @@ number_not_above n m (k ∷ ns) above low =
 pub all_within_more : (n m : ℕ) (ns : List ℕ) → AllWithin n ns → n ≤ m → AllWithin m ns
 all_within_more n m [] within low = tt
 all_within_more n m (k ∷ ns) within low = (let small : k ≤ n = within.0 in let e : k ≤ m = omega arith in e, all_within_more n m ns within.1 low)
+
+pub all_above_less : (n m : ℕ) (ns : List ℕ) → AllAbove m ns → n ≤ m → AllAbove n ns
+all_above_less n m [] above low = tt
+all_above_less n m (k ∷ ns) above low = (let high : m < k = above.0 in let e : n < k = omega arith in e, all_above_less n m ns above.1 low)

@@ -141,7 +141,7 @@ next_is_told begun ended calls failed power d shown kept =
     or_false false = refl
 
 -- a later one failed: none before it
-kept_before : (calls later : ℕ) (failed ended : List Failure) (f : Failure) → f.number ≡ later → calls < later → AreKept later (failed ++ f ∷ []) ended → AreKept calls failed ended
+pub kept_before : (calls later : ℕ) (failed ended : List Failure) (f : Failure) → f.number ≡ later → calls < later → AreKept later (failed ++ f ∷ []) ended → AreKept calls failed ended
 kept_before calls later failed ended f is more kept = record {
   since = f ∷ kept.since;
   all = kept.all ∙ append_assoc failed (f ∷ []) kept.since;
@@ -186,3 +186,7 @@ same_reads (suc n) d = same_reads n (called d)
 pub same_read_list : (n : ℕ) (d : Device) → (calls_made n d).failing_reads ≡ d.failing_reads
 same_read_list zero d = refl
 same_read_list (suc n) d = same_read_list n (called d)
+
+pub same_offset : (n : ℕ) (d : Device) → (calls_made n d).offset ≡ d.offset
+same_offset zero d = refl
+same_offset (suc n) d = same_offset n (called d)

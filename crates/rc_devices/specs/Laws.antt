@@ -1,5 +1,5 @@
 -- What the calls of a log on a disk that tells them are to the devices of a run.
-use Rattle.std.specs.Prelude.{◌≡◌, ◌+◌, ◌-◌, ◌<◌, ◌^◌, ℕ, false, true, List, length, Option, None, Some, IfSome}
+use Rattle.std.specs.Prelude.{◌≡◌, ◌+◌, ◌-◌, ◌<◌, ◌^◌, ℕ, false, true, List, length, Option, None, Some, IfSome, if◌then◌else◌}
 use Rattle.rc_disk.specs.declared.power.Cause.{Cause}
 use Rattle.rc_disk.specs.declared.power.Power.{Power}
 use Rattle.rc_disk.specs.declared.power.Power.TheVariants.{On}
@@ -8,7 +8,7 @@ use Rattle.rc_disk.specs.Places.{Start}
 use Rattle.rc_log.specs.Journals.{State, Appends, Fails, would_pass_limit, with_cut}
 use Rattle.rc_log.specs.Append.{create_calls, all_done}
 use Rattle.rc_log.specs.Opening.{synced_and_read, FailsToOpen, FailsToBegin}
-use Rattle.rc_runs.specs.Devices.{Device, Made, Full, FailsAt, appended, created, opened, powered, armed, read_once, called, at_offset}
+use Rattle.rc_runs.specs.Devices.{Device, Made, Full, keeps, offset_after, FailsAt, appended, created, opened, powered, armed, read_once, called}
 use Rattle.rc_devices.specs.Disks.{IsKept, IsDisk, IsLog, calls_made}
 
 -- what the log's disk tells is told at the end still
@@ -26,6 +26,7 @@ pub record IsMade (begun : Start) (ended : Told) (new : State) (d : Device) (len
 pub record IsFailed (begun : Start) (ended : Told) (new : State) (call : ℕ) (cause : Cause) (d : Device) (len : ℕ) : Type 0 where
   pub after : Device
   pub is : appended d len ≡ (FailsAt call cause, after)
+  pub offset : after.offset ≡ (if keeps call cause then offset_after d.offset len else d.offset)
   pub told : Told
   pub tells : new.told ≡ Some told
   pub disk : IsDisk begun ended (powered_disk told) On (powered after)
