@@ -1,12 +1,11 @@
 -- What a restart makes again: values by rising numbers, put one after another, are those values.
-use Rattle.std.proofs.Common.{◌≡◌, ℕ, true, List, [], ◌∷◌, ◌++◌, map, refl, sym, ap, subst, ◌∙◌, arith, append_assoc}
+use Rattle.std.proofs.Common.{◌≡◌, ℕ, List, [], ◌∷◌, ◌++◌, map, refl, sym, ap, subst, ◌∙◌, arith, append_assoc}
 use Rattle.std.proofs.lemmas.List.{append-nil}
 use Rattle.std.specs.declared.cmp.Ordering.{Ordering}
 use Rattle.std.specs.declared.cmp.Ordering.TheVariants.{Less, Greater}
 use Rattle.std.specs.List.{AllByRecursion}
 use Rattle.std.specs.List.Sorted.{IsStrictlySortedBy}
 use Rattle.std.specs.Ordering.{nat_cmp, match_ordering}
-use Rattle.rc_ids.specs.Cluster.{Layout, IsLayout, is_dc}
 use Rattle.rc_ids.specs.Tables.{Table, put}
 use Rattle.rc_record.specs.InOrder.{filed}
 
@@ -52,7 +51,3 @@ module _ {X : Type 0} where
 
   pub filed-sorted : (es : List (ℕ × X)) → IsStrictlySortedBy nat_cmp (map (λ (e : ℕ × X). e.0) es) → filed [] es ≡ es
   filed-sorted es sorted = filed-rest [] es (rises-keys es sorted)
-
--- 1 is a datacentre of every cluster
-pub first_dc : (c : Layout) → IsLayout c → is_dc c 1 ≡ true
-first_dc c is = grind (arith, is.dcs)

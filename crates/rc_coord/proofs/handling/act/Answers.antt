@@ -1,4 +1,4 @@
-use Rattle.std.proofs.Common.{◌≡◌, true, sym, subst, ◌∙◌}
+use Rattle.std.proofs.Common.{◌≡◌, true, subst}
 use Rattle.std.proofs.lemmas.Result.{on_ok_weaker, IfErr-weaker}
 use Rattle.rc_ids.specs.Cluster.{is_dc}
 use Rattle.rc_protocol.specs.Coordinator.{CoordDurable, CoordVolatile, CoordAct, on_voted, coord_row}

@@ -1,4 +1,4 @@
-use Rattle.std.proofs.Common.{◌≡◌, ℕ, List, [], map, sym, ap, ◌∙◌}
+use Rattle.std.proofs.Common.{◌≡◌, [], sym, ap, ◌∙◌}
 use Rattle.rc_record.specs.InOrder.{filed}
 use Rattle.rc_coord.proofs.StartFacts.{filed-sorted}
 use Rattle.rc_coord.proofs.starting.numbered_of.Goals as goal

@@ -1,6 +1,5 @@
 use Rattle.std.proofs.Common.{◌≡◌, ℕ, List, [], ◌++◌, sym, ap, subst, ◌∙◌}
 use Rattle.rc_body.specs.declared.decision.Decision.{Decision}
-use Rattle.rc_body.specs.Pages.{TxsDiffer}
 use Rattle.rc_catch.proofs.ListFacts.{differ}
 use Rattle.rc_coord.specs.Rows.{AreNew}
 use Rattle.rc_coord.proofs.PageRows.{differ-new}
