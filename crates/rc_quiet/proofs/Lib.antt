@@ -42,3 +42,5 @@ pub mod Printing
 pub mod QuietMoments
 pub mod Closing
 pub mod QuietLaw
+pub mod RowsWritten
+pub mod Sizes
