@@ -1,26 +1,23 @@
 -- What came before an event, and what comes in it.
-use Rattle.std.proofs.Common.{◌≡◌, ℕ, zero, suc, ◌-◌, List, [], ◌∷◌, ◌++◌, refl, sym, ap, ◌∙◌, subst, Bool, true, false, cond, Option, Some, None, ◌⊎◌, inl, inr, ⊎_elim, true≢false}
+use Rattle.std.proofs.Common.{◌≡◌, ℕ, zero, suc, ◌-◌, List, [], ◌∷◌, ◌++◌, refl, sym, ap, ◌∙◌, subst, Bool, true, false, cond, Option, Some, None, ◌⊎◌, inl, inr, ⊎_elim}
 use Rattle.std.specs.Prelude.{slice_get, ◌==◌}
 use Rattle.std.specs.Ordering.{nat_cmp}
 use Rattle.rc_ids.specs.Tables.{In, found, maybe}
-use Rattle.rc_ids.specs.declared.names.NodeId.TheVariants.{Coord, Shard as ShardServer}
 use Rattle.rc_ids.specs.declared.names.Party.{Party}
-use Rattle.rc_ids.specs.declared.names.Party.TheVariants.{Node, Client as ClientOf}
 use Rattle.rc_msg.specs.declared.msg.Envelope.{Envelope}
 use Rattle.rc_msg.specs.declared.msg.Msg.{Msg}
 use Rattle.rc_record.specs.declared.record.Record.{Record}
-use Rattle.rc_report.specs.declared.fault.Wrong.{Wrong}
 use Rattle.rc_report.specs.declared.fault.Wrong.TheVariants.{NotSent}
 use Rattle.rc_protocol.specs.Messages.{coordinator, shard_server, client_of}
 use Rattle.rc_protocol.specs.Client.{Client}
-use Rattle.rc_protocol.specs.Acts.{NodeCause, Came as Comes, Catches, Takes, coord_act, shard_act, ClientCause, Hears, Reads, Writes, Commits, Cancels, Retries, Vanishes, client_act}
+use Rattle.rc_protocol.specs.Acts.{Came as Comes, coord_act, shard_act, Hears, client_act}
 use Rattle.rc_protocol.specs.Nodes.{CoordNode, ShardNode}
 use Rattle.rc_runs.specs.declared.event.Event.{Event}
-use Rattle.rc_runs.specs.declared.event.Event.TheVariants.{Begin, Read, Write, Commit, Cancel, Retry, Vanish, Take, Catch, Deliver, Lose, Crash, CrashAt, Restart}
-use Rattle.rc_runs.specs.World.{World, Parties, Deed, Idle, ByClient, ByCoord, ByShard, CoordStops, ShardStops, kept_record, Course, Goes, Stops, message, received, coord_at, shard_at, deed, along, delivered_after, actor}
+use Rattle.rc_runs.specs.declared.event.Event.TheVariants.{Deliver}
+use Rattle.rc_runs.specs.World.{World, Parties, Deed, Idle, ByClient, ByCoord, ByShard, CoordStops, ShardStops, kept_record, Course, Goes, Stops, message, coord_at, shard_at, deed, along, delivered_after, actor}
 use Rattle.rc_runs.specs.Refusals.{wrong}
-use Rattle.rc_agreement.proofs.Cases.{on_cond, on_maybe, some_is, never}
-use Rattle.rc_agreement.proofs.Tables.{in_left, in_right, in_either}
+use Rattle.rc_agreement.proofs.Cases.{some_is, never}
+use Rattle.rc_agreement.proofs.Tables.{in_left, in_either}
 use Rattle.rc_causes.proofs.Moves.{Delivers}
 use Rattle.rc_quiet.proofs.Parts.{Came}
 

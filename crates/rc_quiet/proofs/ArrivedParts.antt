@@ -1,9 +1,8 @@
 -- What came to t's client and to members was taken: after an event in which others act, and after their own.
-use Rattle.std.proofs.Common.{◌≡◌, ℕ, List, [], ◌∷◌, ◌++◌, refl, sym, ap, ◌∙◌, subst, Bool, true, false, Option, Some, None, ◌⊎◌, inl, inr, ⊎_elim}
+use Rattle.std.proofs.Common.{◌≡◌, ℕ, List, [], ◌∷◌, ◌++◌, refl, sym, ap, ◌∙◌, subst, Bool, true, false, Option, Some, None, inl, inr, ⊎_elim}
 use Rattle.std.specs.Prelude.{◌||◌, is_some}
 use Rattle.std.specs.Ordering.{nat_cmp}
 use Rattle.rc_ids.specs.Tables.{In, Table, found, put, member}
-use Rattle.rc_ids.specs.Cluster.{Layout, is_dc}
 use Rattle.rc_ids.specs.declared.names.Outcome.{Outcome}
 use Rattle.rc_ids.specs.declared.names.Outcome.TheVariants.{Commit as Committed}
 use Rattle.rc_ids.specs.declared.names.Party.{Party}
@@ -12,32 +11,28 @@ use Rattle.rc_body.specs.declared.entry.Entry.{Entry}
 use Rattle.rc_body.specs.declared.decision.Decision.{Decision}
 use Rattle.rc_msg.specs.declared.msg.Envelope.{Envelope}
 use Rattle.rc_msg.specs.declared.msg.Msg.{Msg}
-use Rattle.rc_msg.specs.declared.msg.Msg.TheVariants.{ReadAsk, Granted, Prepare, Voted}
+use Rattle.rc_msg.specs.declared.msg.Msg.TheVariants.{ReadAsk}
 use Rattle.rc_record.specs.declared.record.Record.{Record}
 use Rattle.rc_record.specs.declared.record.Record.TheVariants.{Head, Prepared as PartPrepared, Finished, Promised, Accepted, Decided}
 use Rattle.rc_record.specs.ShardState.{ShardDurable, settled, settled_new, settled_all, shard_applied}
-use Rattle.rc_protocol.specs.Messages.{Posts, coordinator, shard_server, client_of}
-use Rattle.rc_protocol.specs.Client.{Client, Slot}
+use Rattle.rc_protocol.specs.Messages.{Posts, shard_server}
+use Rattle.rc_protocol.specs.Client.{Client}
 use Rattle.rc_protocol.specs.Shard.{mark_cmp, test, on_read_ask, on_prepare}
-use Rattle.rc_protocol.specs.Acts.{NodeCause, Came as Comes, Catches, Takes, shard_act}
-use Rattle.rc_protocol.specs.Nodes.{CoordNode, ShardNode, applied, shard_after}
+use Rattle.rc_protocol.specs.Nodes.{ShardNode, applied, shard_after}
 use Rattle.rc_runs.specs.declared.event.Event.{Event}
-use Rattle.rc_runs.specs.declared.event.Event.TheVariants.{Deliver, Catch}
-use Rattle.rc_runs.specs.World.{World, Parties, coord_at, shard_at, message, envelopes, delivered_after}
+use Rattle.rc_runs.specs.declared.event.Event.TheVariants.{Deliver}
+use Rattle.rc_runs.specs.World.{World, shard_at, message, envelopes, delivered_after}
 use Rattle.rc_runs.specs.Refusals.{wrong}
 use Rattle.rc_agreement.proofs.Cases.{on_maybe, never}
 use Rattle.rc_agreement.proofs.Tables.{put_cases, found_in}
 use Rattle.rc_agreement.proofs.ShardNotes.{settled_is}
-use Rattle.rc_agreement.proofs.Ballots.{Late}
 use Rattle.rc_agreement.proofs.ClientSlots.{slot_in}
 use Rattle.rc_causes.proofs.ReadSlots.{Has}
-use Rattle.rc_causes.proofs.ReadGrants.{Counts}
-use Rattle.rc_causes.proofs.Moves.{ShardWhy}
-use Rattle.rc_quiet.proofs.Parts.{Sent, Came, IsBegun, IsDone, Own, CountsVote, Goes, Answers, SaysYes}
+use Rattle.rc_quiet.proofs.Parts.{Sent, Came, IsDone, Own, Answers, SaysYes}
 use Rattle.rc_quiet.proofs.Ending.{in_message}
-use Rattle.rc_quiet.proofs.Growing.{posted_in, more_in, answers_on, yes_on}
+use Rattle.rc_quiet.proofs.Growing.{posted_in, more_in}
 use Rattle.rc_quiet.proofs.Kept.{Kept}
-use Rattle.rc_quiet.proofs.Arrivals.{AreSent, came_now, one_delivered}
+use Rattle.rc_quiet.proofs.Arrivals.{AreSent, came_now}
 use Rattle.rc_quiet.proofs.MemberShards.{Unheld, held_by_none, read_answered, prepare_answered}
 
 -- what is finished stays so

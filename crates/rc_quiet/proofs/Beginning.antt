@@ -1,7 +1,7 @@
 -- Where nothing names t, all that a quiet stretch keeps of it holds.
-use Rattle.std.proofs.Common.{◌≡◌, ℕ, List, refl, sym, ap, ◌∙◌, Option, Some, None, ◌⊎◌, inl, inr, ⊎_elim}
+use Rattle.std.proofs.Common.{◌≡◌, ℕ, List, refl, sym, ◌∙◌, None, inl, ⊎_elim}
 use Rattle.std.specs.Ordering.{nat_cmp}
-use Rattle.rc_ids.specs.Tables.{In, found}
+use Rattle.rc_ids.specs.Tables.{found}
 use Rattle.rc_ids.specs.Cluster.{Layout}
 use Rattle.rc_ids.specs.declared.names.Party.{Party}
 use Rattle.rc_msg.specs.declared.msg.Envelope.{Envelope}
@@ -10,7 +10,7 @@ use Rattle.rc_msg.specs.declared.msg.Msg.TheVariants.{ReadAsk, Granted, Propose,
 use Rattle.rc_protocol.specs.Nodes.{CoordNode, ShardNode}
 use Rattle.rc_runs.specs.World.{Parties}
 use Rattle.rc_agreement.proofs.Cases.{never}
-use Rattle.rc_quiet.proofs.Parts.{Sent, Fits, CoordFits, ShardFits}
+use Rattle.rc_quiet.proofs.Parts.{Fits, CoordFits, ShardFits}
 use Rattle.rc_quiet.proofs.Ending.{in_message}
 use Rattle.rc_quiet.proofs.Kept.{Kept}
 use Rattle.rc_quiet.proofs.Arrivals.{AreSent}

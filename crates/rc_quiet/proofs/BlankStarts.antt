@@ -1,22 +1,20 @@
 -- A node that starts from a log that does not name t holds nothing of it.
-use Rattle.std.proofs.Common.{◌≡◌, ℕ, List, [], ◌∷◌, refl, sym, ap, ◌∙◌, subst, true, Option, Some, None, ◌⊎◌, inl, inr, ⊎_elim, max}
+use Rattle.std.proofs.Common.{◌≡◌, ℕ, List, [], ◌∷◌, refl, sym, ap, ◌∙◌, Some, inl, inr, ⊎_elim}
 use Rattle.std.specs.Ordering.{nat_cmp}
-use Rattle.rc_ids.specs.Tables.{In, Table, found, put, added}
-use Rattle.rc_ids.specs.declared.names.Outcome.{Outcome}
+use Rattle.rc_ids.specs.Tables.{In, found, put, added}
 use Rattle.rc_body.specs.declared.entry.Entry.{Entry}
 use Rattle.rc_body.specs.declared.decision.Decision.{Decision}
 use Rattle.rc_record.specs.declared.record.Record.{Record}
 use Rattle.rc_record.specs.declared.record.Record.TheVariants.{Head, Prepared, Finished, Promised, Accepted, Decided as OutcomesDecided}
 use Rattle.rc_record.specs.CoordState.{CoordDurable, promise_of, coord_applied, new_durable as new_coord_durable}
-use Rattle.rc_record.specs.ShardState.{ShardDurable, shard_applied, settled, settled_new, settled_all, new_durable as new_shard_durable}
-use Rattle.rc_protocol.specs.Coordinator.{GatherState, TakeoverState, Standing}
-use Rattle.rc_protocol.specs.Nodes.{CoordNode, ShardNode, applied, coord_started, shard_started, coord_replayed, shard_replayed, with_txs, with_named, with_log}
+use Rattle.rc_record.specs.ShardState.{ShardDurable, shard_applied, settled_all, new_durable as new_shard_durable}
+use Rattle.rc_protocol.specs.Nodes.{coord_started, shard_started, coord_replayed, shard_replayed, with_txs, with_named, with_log}
 use Rattle.rc_agreement.proofs.Cases.{never}
-use Rattle.rc_agreement.proofs.Tables.{added_has, in_added, put_cases, in_put}
+use Rattle.rc_agreement.proofs.Tables.{added_has, put_cases, in_put}
 use Rattle.rc_agreement.proofs.ShardNotes.{settled_finished}
 use Rattle.rc_quiet.proofs.ShardFitRows.{settled_parts_in}
 use Rattle.rc_quiet.proofs.NodesAfter.{in_joined, low_after}
-use Rattle.rc_quiet.proofs.CoordBlankRows.{CoordBlank, RecordBlank}
+use Rattle.rc_quiet.proofs.CoordBlankRows.{CoordBlank}
 use Rattle.rc_quiet.proofs.ShardBlankRows.{DurableBlank, ShardBlank}
 
 -- what a record names stays named

@@ -1,17 +1,15 @@
 -- A client of t stays there; it is as it was, or has done what its cause makes it do.
-use Rattle.std.proofs.Common.{◌≡◌, ℕ, List, [], ◌∷◌, refl, sym, ap, ◌∙◌, subst, Bool, true, false, cond, Option, Some, None, ◌⊎◌, inl, inr, ⊎_elim, true≢false}
+use Rattle.std.proofs.Common.{◌≡◌, ℕ, refl, sym, ap, ◌∙◌, subst, false, Some, None, ⊎_elim}
 use Rattle.std.specs.Ordering.{nat_cmp}
-use Rattle.rc_ids.specs.Tables.{In, Table, found, put, maybe}
-use Rattle.rc_protocol.specs.Client.{Client, ClientAct, ClientRefusal, KeyWornOut, Slot, is_open, new_client}
+use Rattle.rc_ids.specs.Tables.{found, put}
+use Rattle.rc_protocol.specs.Client.{Client, new_client}
 use Rattle.rc_protocol.specs.Acts.{ClientCause, client_act}
-use Rattle.rc_protocol.specs.Nodes.{CoordNode, ShardNode}
 use Rattle.rc_report.specs.declared.fault.Wrong.TheVariants.{BegunTwice}
 use Rattle.rc_runs.specs.declared.event.Event.{Event}
 use Rattle.rc_runs.specs.declared.event.Event.TheVariants.{Begin}
-use Rattle.rc_runs.specs.World.{World, Parties, Deed, Idle, ByClient, Course, replaced, after_begin, parties_after, lines_of, course_deed, step}
-use Rattle.rc_runs.specs.Refusals.{Happening, wrong, is_begun, is_event, after_event, run}
-use Rattle.rc_claims.specs.Quiet.{DropsNothing, moments, events_of, keys_of}
-use Rattle.rc_agreement.proofs.Cases.{on_cond, never, some_is, nat_dec}
+use Rattle.rc_runs.specs.World.{World, Parties, Deed, Idle, ByClient, Course, replaced, after_begin, parties_after, course_deed, step}
+use Rattle.rc_runs.specs.Refusals.{wrong, is_begun}
+use Rattle.rc_agreement.proofs.Cases.{on_cond, never, some_is}
 use Rattle.rc_agreement.proofs.Tables.{put_cases, set_cases}
 use Rattle.rc_agreement.proofs.Agreeing.{not_begun}
 use Rattle.rc_causes.proofs.Moves.{ClientWhy, Move, Rests, ClientActs, CoordActs, CoordWakes, CoordHalts, CoordCrashes, ShardActs, ShardWakes, ShardHalts, ShardCrashes, move_of, coord_joins, shard_joins, client_joins}

@@ -1,27 +1,26 @@
 -- What t's client tests, asks for and proposes, by each of its rows but those with which it drops a read or vanishes.
 use Rattle.std.proofs.Common.{◌≡◌, ℕ, List, [], ◌∷◌, ◌++◌, refl, sym, ap, ◌∙◌, subst, Bool, true, false, Option, Some, None, ◌⊎◌, inl, inr, ⊎_elim, true≢false}
-use Rattle.std.specs.Prelude.{map, not, ◌&&◌, ◌==◌}
+use Rattle.std.specs.Prelude.{not, ◌&&◌, ◌==◌}
 use Rattle.std.specs.Ordering.{nat_cmp}
 use Rattle.std.proofs.lemmas.Bool.{eqb-true}
 use Rattle.rc_ids.specs.Tables.{In, Table, found, put, maybe}
 use Rattle.rc_ids.specs.Cluster.{Layout, is_dc, is_quorum, shard_of}
-use Rattle.rc_ids.specs.declared.names.Party.{Party}
 use Rattle.rc_body.specs.declared.decision.Decision.{Decision}
 use Rattle.rc_body.specs.declared.decision.Decision.TheVariants.{Commit, Abort}
 use Rattle.rc_msg.specs.declared.msg.Msg.{Msg}
 use Rattle.rc_msg.specs.declared.msg.Msg.TheVariants.{ReadAsk, Granted, Propose, Voted, Refused, Decided}
 use Rattle.rc_protocol.specs.Messages.{Posts, coordinator, shard_server, to_all}
 use Rattle.rc_protocol.specs.Coordinator.{Standing, nobody, stands_for, standing_for, standing_at, counted, is_decided_by}
-use Rattle.rc_protocol.specs.Client.{Client, ClientAct, Phase, Open, Committing, Proposed, Done, Vanished, Slot, KeyRead, NotRead, UnderWay, Complete, Grant, is_open, is_over, is_done, is_committing, is_proposed, is_unread, reads_on, client_stays, with_slots, with_read, with_write, is_worn, proposes, body_of, slot_of, slot_set, read_begun, asks, reads_again, do_read, do_write, is_under_way, waits_for_read, reads_begun, unread_keys, asks_all, do_commit, do_retry, grants_of, granted_by, cancels, completed, read_line, after_read, unless_refused, with_grant, prints_of, takes_grant, wants_grant, on_granted, on_voted, on_decided, counts_refusal, client_row}
+use Rattle.rc_protocol.specs.Client.{Client, ClientAct, Phase, Open, Committing, Proposed, Done, Vanished, Slot, KeyRead, NotRead, UnderWay, Complete, Grant, is_open, is_over, is_done, is_committing, is_proposed, is_unread, reads_on, client_stays, with_slots, with_read, with_write, is_worn, proposes, body_of, slot_of, slot_set, read_begun, asks, reads_again, do_read, do_write, is_under_way, waits_for_read, reads_begun, unread_keys, asks_all, do_commit, do_retry, granted_by, cancels, completed, read_line, after_read, unless_refused, with_grant, prints_of, takes_grant, wants_grant, on_granted, on_voted, on_decided, counts_refusal, client_row}
 use Rattle.rc_protocol.specs.Acts.{ClientCause, Hears, Reads, Writes, Commits, Cancels, Retries, Vanishes, client_by_row}
-use Rattle.rc_agreement.proofs.Cases.{on_cond, on_maybe, some_is, never, and_left, and_right, not_true}
-use Rattle.rc_agreement.proofs.Tables.{in_left, in_right, in_either, in_map, put_cases}
+use Rattle.rc_agreement.proofs.Cases.{on_cond, on_maybe, some_is, and_left, and_right, not_true}
+use Rattle.rc_agreement.proofs.Tables.{in_right, in_either, in_map, put_cases}
 use Rattle.rc_agreement.proofs.Lists.{any_some}
 use Rattle.rc_agreement.proofs.Ballots.{Late}
 use Rattle.rc_agreement.proofs.ClientRows.{early_late, open_early, Ready}
 use Rattle.rc_agreement.proofs.ClientSlots.{slot_in, in_set, begun_key}
 use Rattle.rc_quiet.proofs.Parts.{IsDone, ClientShape}
-use Rattle.rc_quiet.proofs.ClientRows.{in_all, in_asks, in_asks_all, in_unread, begun_unread, begun_same, under_unread, done_read, none_under, begun_done, set_in, open_apart, early_proposed}
+use Rattle.rc_quiet.proofs.ClientRows.{in_all, in_asks, in_asks_all, in_unread, begun_unread, under_unread, done_read, none_under, begun_done, set_in, open_apart, early_proposed}
 
 -- a message that comes to t's client tells this outcome, or a vote for it
 abbrev pub Brings : ℕ → ClientCause → Decision → Type 0

@@ -1,7 +1,7 @@
 -- A client that becomes done prints the outcome that it learns.
-use Rattle.std.proofs.Common.{◌≡◌, ℕ, List, [], ◌∷◌, refl, sym, ap, ◌∙◌, subst, Bool, true, false, Option, Some, None, ◌⊎◌, inl, inr, ⊎_elim, true≢false}
+use Rattle.std.proofs.Common.{◌≡◌, ℕ, List, refl, sym, ◌∙◌, Bool, true, false, Some, inl, true≢false}
 use Rattle.std.specs.Prelude.{not, ◌&&◌, ◌==◌}
-use Rattle.rc_ids.specs.Tables.{In, Table}
+use Rattle.rc_ids.specs.Tables.{In}
 use Rattle.rc_ids.specs.Cluster.{Layout, is_dc, is_quorum}
 use Rattle.rc_body.specs.Decisions.{outcome_of}
 use Rattle.rc_body.specs.declared.decision.Decision.{Decision}
@@ -9,7 +9,7 @@ use Rattle.rc_msg.specs.declared.msg.Msg.{Msg}
 use Rattle.rc_msg.specs.declared.msg.Msg.TheVariants.{Granted, Voted, Refused, Decided}
 use Rattle.rc_report.specs.declared.line.Line.TheVariants.{Learned}
 use Rattle.rc_protocol.specs.Coordinator.{is_decided_by}
-use Rattle.rc_protocol.specs.Client.{Client, ClientAct, Slot, KeyRead, NotRead, UnderWay, Complete, Grant, is_done, is_over, is_committing, is_proposed, is_under_way, reads_on, client_stays, with_slots, is_worn, proposes, slot_of, slot_set, reads_again, do_read, waits_for_read, reads_begun, do_commit, do_cancel, do_retry, granted_by, cancels, completed, read_line, after_read, unless_refused, with_grant, takes_grant, wants_grant, on_granted, counts_refusal, client_row}
+use Rattle.rc_protocol.specs.Client.{Client, ClientAct, Slot, KeyRead, NotRead, UnderWay, Complete, Grant, is_done, is_over, is_committing, is_proposed, is_under_way, reads_on, client_stays, with_slots, is_worn, proposes, slot_of, slot_set, reads_again, do_read, waits_for_read, reads_begun, do_commit, granted_by, cancels, completed, read_line, after_read, unless_refused, with_grant, takes_grant, wants_grant, on_granted, counts_refusal, client_row}
 use Rattle.rc_protocol.specs.Acts.{ClientCause, Hears, Reads, Writes, Commits, Cancels, Retries, Vanishes, client_by_row, client_act, refusal}
 use Rattle.rc_agreement.proofs.Cases.{on_cond, on_maybe}
 

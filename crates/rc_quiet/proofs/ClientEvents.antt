@@ -1,11 +1,10 @@
 -- What an event in which a client acts, or nobody, shows of t.
-use Rattle.std.proofs.Common.{◌≡◌, ℕ, List, [], ◌∷◌, ◌++◌, refl, sym, ap, ◌∙◌, subst, Bool, true, false, Option, Some, None, ◌⊎◌, inl, inr, ⊎_elim, true≢false}
+use Rattle.std.proofs.Common.{◌≡◌, ℕ, List, [], refl, sym, ap, ◌∙◌, subst, false, Option, Some, None, inl, inr, ⊎_elim, true≢false}
 use Rattle.std.specs.Ordering.{nat_cmp}
 use Rattle.std.proofs.lemmas.List.{append-nil}
-use Rattle.rc_ids.specs.Tables.{In, Table, found, put, maybe}
+use Rattle.rc_ids.specs.Tables.{In, found, put}
 use Rattle.rc_ids.specs.Cluster.{Layout, is_quorum, shard_of}
 use Rattle.rc_ids.specs.declared.names.Party.{Party}
-use Rattle.rc_body.specs.declared.entry.Entry.{Entry}
 use Rattle.rc_body.specs.declared.decision.Decision.{Decision}
 use Rattle.rc_body.specs.declared.decision.Decision.TheVariants.{Commit as CommitOf, Abort}
 use Rattle.rc_msg.specs.declared.msg.Envelope.{Envelope}
@@ -13,20 +12,20 @@ use Rattle.rc_msg.specs.declared.msg.Msg.{Msg}
 use Rattle.rc_msg.specs.declared.msg.Msg.TheVariants.{ReadAsk, Granted, Prepare, Voted}
 use Rattle.rc_protocol.specs.Messages.{Posts, coordinator, shard_server, client_of}
 use Rattle.rc_protocol.specs.Coordinator.{standing_for, nobody}
-use Rattle.rc_protocol.specs.Client.{Client, ClientAct, ClientRefusal, KeyWornOut, KeyRead, Slot, new_client, client_refuses}
+use Rattle.rc_protocol.specs.Client.{Client, ClientAct, KeyWornOut, new_client, client_refuses}
 use Rattle.rc_protocol.specs.Acts.{ClientCause, Hears, Reads, Writes, Commits, Cancels, Retries, Vanishes, client_by_row, client_act, refusal}
 use Rattle.rc_protocol.specs.Nodes.{CoordNode, ShardNode}
 use Rattle.rc_runs.specs.declared.event.Event.{Event}
 use Rattle.rc_runs.specs.declared.event.Event.TheVariants.{Begin, Deliver}
-use Rattle.rc_runs.specs.World.{World, Parties, Course, Idle, coord_at, shard_at, message, envelopes, replaced, deed, along, delivered_after, actor, with_client, with_new_client}
+use Rattle.rc_runs.specs.World.{World, Parties, Course, Idle, coord_at, shard_at, message, replaced, deed, along, actor, with_client, with_new_client}
 use Rattle.rc_runs.specs.Refusals.{wrong}
-use Rattle.rc_agreement.proofs.Cases.{on_maybe, some_is, never, nat_dec}
+use Rattle.rc_agreement.proofs.Cases.{on_maybe, some_is}
 use Rattle.rc_agreement.proofs.Tables.{put_cases, set_cases}
 use Rattle.rc_causes.proofs.Moves.{ClientWhy}
 use Rattle.rc_causes.proofs.ReadSlots.{Has, read_stays}
 use Rattle.rc_causes.proofs.ReadGrants.{Counts, counts_stay}
 use Rattle.rc_causes.proofs.ReadFits.{none_few}
-use Rattle.rc_quiet.proofs.Parts.{Sent, Came, IsDone, ClientShape, CountsVote, Goes, Answers, SaysYes}
+use Rattle.rc_quiet.proofs.Parts.{IsDone, ClientShape, CountsVote}
 use Rattle.rc_quiet.proofs.Ending.{in_message}
 use Rattle.rc_quiet.proofs.Kept.{Kept, begins}
 use Rattle.rc_quiet.proofs.Arrivals.{one_delivered, coord_not_idle, shard_not_idle, client_not_idle}

@@ -1,5 +1,5 @@
 -- A client that drops no read keeps its keys, and one that is not open does not open again; its commit leaves it not open.
-use Rattle.std.proofs.Common.{◌≡◌, ℕ, List, [], ◌∷◌, ◌++◌, refl, sym, ap, ◌∙◌, subst, Bool, true, false, cond, Option, Some, None, ◌⊎◌, inl, inr, ⊎_elim, true≢false}
+use Rattle.std.proofs.Common.{◌≡◌, ℕ, List, [], ◌∷◌, ◌++◌, refl, sym, ◌∙◌, subst, false, Option, Some, None, inl, inr, ⊎_elim}
 use Rattle.std.specs.Prelude.{map, not, ◌&&◌, ◌==◌}
 use Rattle.rc_ids.specs.Tables.{In, maybe}
 use Rattle.rc_ids.specs.Texts.{same_key}
@@ -7,14 +7,11 @@ use Rattle.rc_ids.specs.Cluster.{Layout, is_dc, is_quorum}
 use Rattle.rc_msg.specs.declared.msg.Msg.{Msg}
 use Rattle.rc_msg.specs.declared.msg.Msg.TheVariants.{Granted, Voted, Refused, Decided}
 use Rattle.rc_protocol.specs.Coordinator.{is_decided_by}
-use Rattle.rc_protocol.specs.Client.{Client, ClientAct, ClientRefusal, KeyWornOut, Phase, Open, Committing, Proposed, Done, Vanished, Slot, KeyRead, NotRead, UnderWay, Complete, Grant, is_open, is_over, is_committing, is_proposed, is_under_way, is_unread, reads_on, client_stays, with_slots, with_read, with_write, is_worn, proposes, slot_of, slot_set, read_begun, reads_again, do_read, do_write, waits_for_read, reads_begun, do_commit, do_retry, grants_of, granted_by, cancels, completed, read_line, after_read, unless_refused, with_grant, prints_of, takes_grant, wants_grant, on_granted, counts_refusal, client_row, client_refuses}
+use Rattle.rc_protocol.specs.Client.{Client, ClientAct, ClientRefusal, KeyWornOut, Phase, Committing, Proposed, Done, Slot, KeyRead, NotRead, UnderWay, Complete, Grant, is_open, is_over, is_committing, is_proposed, reads_on, client_stays, with_slots, with_read, with_write, is_worn, proposes, slot_of, slot_set, read_begun, reads_again, do_read, do_write, waits_for_read, reads_begun, do_commit, do_retry, granted_by, cancels, completed, read_line, after_read, unless_refused, with_grant, prints_of, takes_grant, wants_grant, on_granted, counts_refusal, client_row, client_refuses}
 use Rattle.rc_protocol.specs.Acts.{ClientCause, Hears, Reads, Writes, Commits, Cancels, Retries, Vanishes, client_by_row, client_act, refusal}
 use Rattle.rc_agreement.proofs.Cases.{on_cond, on_maybe}
-use Rattle.rc_agreement.proofs.Tables.{in_left}
-use Rattle.rc_agreement.proofs.ClientRows.{Ready}
 use Rattle.rc_agreement.proofs.ClientSlots.{key_is, begun_key}
 use Rattle.rc_quiet.proofs.ClientDoes.{DropsNone}
-use Rattle.rc_quiet.proofs.ClientTurns.{ready_of}
 
 abbrev pub keys_in : List Slot → List (List ℕ)
 keys_in xs = map (λ (s : Slot). s.key) xs

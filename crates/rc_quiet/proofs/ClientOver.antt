@@ -1,17 +1,14 @@
 -- Over a stretch in which nothing of t is dropped, its client stays, keeps its keys, and once it is not open stays so.
-use Rattle.std.proofs.Common.{◌≡◌, ℕ, List, [], ◌∷◌, refl, sym, ap, ◌∙◌, subst, Bool, true, false, Option, Some, None, ◌⊎◌, inl, inr, ⊎_elim}
+use Rattle.std.proofs.Common.{◌≡◌, ℕ, List, [], sym, subst, Bool, true, false, Option, Some}
 use Rattle.std.specs.Prelude.{map}
 use Rattle.std.specs.Ordering.{nat_cmp}
 use Rattle.rc_ids.specs.Tables.{In, found, maybe}
 use Rattle.rc_protocol.specs.Client.{Client, Slot, is_open}
-use Rattle.rc_protocol.specs.Acts.{ClientCause, client_act}
-use Rattle.rc_runs.specs.declared.event.Event.{Event}
 use Rattle.rc_runs.specs.World.{World, course_deed, step}
 use Rattle.rc_runs.specs.Refusals.{Happening, is_event, run}
 use Rattle.rc_claims.specs.Quiet.{DropsNothing, moments, events_of, keys_of}
 use Rattle.rc_agreement.proofs.Lists.{map_in}
-use Rattle.rc_causes.proofs.Moves.{ClientWhy}
-use Rattle.rc_quiet.proofs.Stretches.{over, Rest, rest_of}
+use Rattle.rc_quiet.proofs.Stretches.{over, rest_of}
 use Rattle.rc_quiet.proofs.ClientKeys.{keys_in, keys_stay, stays_shut}
 use Rattle.rc_quiet.proofs.ClientAfter.{Becomes, Rested, Acted, client_after}
 use Rattle.rc_quiet.proofs.EventSteps.{drops_none, event_ok}

@@ -1,31 +1,23 @@
 -- What is asked for and proposed to all, and reads and phases of clients.
-use Rattle.std.proofs.Common.{◌≡◌, ℕ, zero, suc, ◌≤◌, ◌≢◌, List, [], ◌∷◌, ◌++◌, refl, sym, ap, ◌∙◌, subst, Bool, true, false, cond, Some, ◌⊎◌, inl, inr, ⊎_elim, true≢false, arith}
-use Rattle.std.specs.Prelude.{map, not, ◌&&◌, ◌==◌}
+use Rattle.std.proofs.Common.{◌≡◌, ℕ, zero, suc, ◌≤◌, ◌≢◌, List, [], ◌∷◌, refl, sym, ap, ◌∙◌, subst, Bool, true, false, cond, Some, ◌⊎◌, inl, inr, ⊎_elim, true≢false, arith}
 use Rattle.std.specs.declared.cmp.Ordering.{Ordering}
 use Rattle.std.specs.declared.cmp.Ordering.TheVariants.{Less, Equal, Greater}
-use Rattle.std.specs.Ordering.{nat_cmp, match_ordering}
+use Rattle.std.specs.Ordering.{match_ordering}
 use Rattle.std.specs.FinMap.{nat_cmp-IsAntisymmetric, slice_cmp-IsAntisymmetric}
-use Rattle.std.proofs.lemmas.Bool.{eqb-true}
-use Rattle.rc_ids.specs.Tables.{In, Table, found, put, maybe, added}
+use Rattle.rc_ids.specs.Tables.{In, added}
 use Rattle.rc_ids.specs.Texts.{key_cmp, same_key}
-use Rattle.rc_ids.specs.Cluster.{Layout, is_dc, is_quorum, shard_of}
+use Rattle.rc_ids.specs.Cluster.{Layout, is_dc, shard_of}
 use Rattle.rc_ids.specs.declared.names.Party.{Party}
-use Rattle.rc_body.specs.declared.decision.Decision.{Decision}
-use Rattle.rc_body.specs.declared.decision.Decision.TheVariants.{Commit, Abort}
 use Rattle.rc_msg.specs.declared.msg.Msg.{Msg}
-use Rattle.rc_msg.specs.declared.msg.Msg.TheVariants.{ReadAsk, Granted, Propose, Voted, Refused, Decided}
+use Rattle.rc_msg.specs.declared.msg.Msg.TheVariants.{ReadAsk}
 use Rattle.rc_protocol.specs.Messages.{Posts, coordinator, shard_server, one, to_each, to_all}
-use Rattle.rc_protocol.specs.Coordinator.{Standing, nobody, stands_for, standing_for, standing_at, counted, is_decided_by}
-use Rattle.rc_protocol.specs.Client.{Client, ClientAct, Phase, Open, Committing, Proposed, Done, Vanished, Slot, KeyRead, NotRead, UnderWay, Complete, Grant, is_open, is_over, is_done, is_committing, is_proposed, is_unread, reads_on, client_stays, with_slots, with_read, with_write, is_worn, proposes, body_of, slot_of, slot_set, read_begun, asks, asks_new, reads_again, do_read, do_write, is_under_way, waits_for_read, reads_begun, unread_keys, asks_all, do_commit, do_retry, grants_of, granted_by, cancels, completed, read_line, after_read, unless_refused, with_grant, prints_of, takes_grant, wants_grant, on_granted, counts_refusal, client_row}
-use Rattle.rc_protocol.specs.Acts.{ClientCause, Hears, Reads, Writes, Commits, Cancels, Retries, Vanishes, client_by_row, client_act, refusal, if_open, if_room}
+use Rattle.rc_protocol.specs.Client.{Phase, Open, Committing, Proposed, Done, Vanished, Slot, KeyRead, NotRead, UnderWay, Complete, is_open, is_committing, is_proposed, is_unread, reads_on, with_read, slot_of, slot_set, read_begun, asks, is_under_way, waits_for_read, reads_begun, unread_keys, asks_all}
 use Rattle.rc_agreement.proofs.Cases.{on_cond, never, nat_dec}
-use Rattle.rc_agreement.proofs.Tables.{in_left, in_right, in_either, in_map, put_cases, put_same}
+use Rattle.rc_agreement.proofs.Tables.{in_left, in_right}
 use Rattle.rc_agreement.proofs.Lists.{any_some, map_in}
 use Rattle.rc_agreement.proofs.Places.{dc_range}
 use Rattle.rc_agreement.proofs.Ballots.{Late}
-use Rattle.rc_agreement.proofs.ClientRows.{early_late, open_early, Ready}
-use Rattle.rc_agreement.proofs.ClientSlots.{slot_in, in_set, begun_key, both, key_same}
-use Rattle.rc_quiet.proofs.Parts.{IsDone, ClientShape}
+use Rattle.rc_quiet.proofs.Parts.{IsDone}
 
 -- TO ALL
 pub in_each : (n d : ℕ) (f : ℕ → Posts) (p : Party × Msg) → 1 ≤ d → d ≤ n → In p (f d) → In p (to_each n f)

@@ -11,9 +11,9 @@ use Rattle.rc_ids.specs.declared.names.Party.{Party}
 use Rattle.rc_body.specs.declared.decision.Decision.TheVariants.{Commit}
 use Rattle.rc_msg.specs.declared.msg.Msg.{Msg}
 use Rattle.rc_msg.specs.declared.msg.Msg.TheVariants.{ReadAsk, ReadCancel, Granted, Propose, Voted, Refused, Decided, Abandon}
-use Rattle.rc_protocol.specs.Messages.{Posts, coordinator, shard_server, one, to_each, to_all}
+use Rattle.rc_protocol.specs.Messages.{coordinator, shard_server, one, to_all}
 use Rattle.rc_protocol.specs.Coordinator.{is_decided_by}
-use Rattle.rc_protocol.specs.Client.{Client, ClientAct, Slot, KeyRead, NotRead, UnderWay, Complete, Grant, is_over, is_unread, is_committing, is_proposed, reads_on, client_stays, with_slots, with_read, read_begun, is_worn, proposes, body_of, slot_of, slot_set, asks, asks_new, reads_again, do_read, is_under_way, waits_for_read, reads_begun, unread_keys, asks_all, do_commit, drops_read, do_cancel, asks_rest, asks_again, waiting_keys, do_retry, grants_of, granted_by, cancel_to, cancels, completed, read_line, after_read, unless_refused, with_grant, takes_grant, wants_grant, on_granted, counts_refusal, gives_up, client_row}
+use Rattle.rc_protocol.specs.Client.{Client, ClientAct, Slot, KeyRead, NotRead, UnderWay, Complete, Grant, is_over, is_unread, is_committing, is_proposed, reads_on, client_stays, with_slots, with_read, read_begun, is_worn, proposes, body_of, slot_of, slot_set, asks, reads_again, do_read, is_under_way, waits_for_read, reads_begun, unread_keys, asks_all, do_commit, drops_read, do_cancel, asks_rest, asks_again, waiting_keys, do_retry, grants_of, granted_by, cancel_to, cancels, completed, read_line, after_read, unless_refused, with_grant, takes_grant, wants_grant, on_granted, counts_refusal, client_row}
 use Rattle.rc_protocol.specs.Acts.{ClientCause, Hears, Reads, Writes, Commits, Cancels, Retries, Vanishes, client_by_row}
 use Rattle.rc_agreement.proofs.Cases.{on_cond, on_maybe, never}
 use Rattle.rc_agreement.proofs.ClientSlots.{slot_in, begun_key, key_same}

@@ -1,9 +1,9 @@
 -- Each act of a client in a quiet stretch keeps what fits of t.
-use Rattle.std.proofs.Common.{◌≡◌, ℕ, List, [], ◌++◌, refl, sym, ap, ◌∙◌, subst, Bool, true, false, Option, Some, None, ◌⊎◌, inl, inr, ⊎_elim, true≢false}
+use Rattle.std.proofs.Common.{◌≡◌, ℕ, List, [], ◌++◌, sym, ap, ◌∙◌, subst, true, Option, Some, None, ⊎_elim}
 use Rattle.std.specs.Ordering.{nat_cmp}
 use Rattle.std.proofs.lemmas.List.{append-nil}
 use Rattle.rc_ids.specs.Tables.{In, Table, found, maybe}
-use Rattle.rc_ids.specs.Cluster.{Layout, is_dc, shard_of}
+use Rattle.rc_ids.specs.Cluster.{Layout, shard_of}
 use Rattle.rc_ids.specs.declared.names.Party.{Party}
 use Rattle.rc_body.specs.Decisions.{outcome_of}
 use Rattle.rc_body.specs.declared.decision.Decision.{Decision}
@@ -11,21 +11,20 @@ use Rattle.rc_body.specs.declared.decision.Decision.TheVariants.{Commit}
 use Rattle.rc_msg.specs.declared.msg.Envelope.{Envelope}
 use Rattle.rc_msg.specs.declared.msg.Msg.{Msg}
 use Rattle.rc_msg.specs.declared.msg.Msg.TheVariants.{ReadAsk, ReadCancel, Propose, Voted, Decided, Abandon}
-use Rattle.rc_protocol.specs.Messages.{Posts, coordinator, shard_server, client_of}
-use Rattle.rc_protocol.specs.Client.{Client, ClientAct, ClientRefusal, NotOpen, Slot, KeyRead, slot_of, is_open, is_proposed, is_done, is_unread, body_of, client_refuses}
+use Rattle.rc_protocol.specs.Messages.{coordinator, shard_server, client_of}
+use Rattle.rc_protocol.specs.Client.{Client, ClientAct, ClientRefusal, NotOpen, Slot, KeyRead, slot_of, is_open, is_proposed, body_of, client_refuses}
 use Rattle.rc_protocol.specs.Acts.{ClientCause, Hears, Reads, Writes, Commits, Cancels, Retries, Vanishes, client_by_row, client_act, refusal, if_open, if_room}
 use Rattle.rc_runs.specs.declared.event.Event.{Event}
 use Rattle.rc_runs.specs.World.{Parties, envelopes, with_client}
 use Rattle.rc_agreement.proofs.Cases.{on_cond, on_maybe, never}
 use Rattle.rc_agreement.proofs.Tables.{set_itself}
-use Rattle.rc_agreement.proofs.Said.{Each}
 use Rattle.rc_agreement.proofs.Sends.{EachTo, says_to, in_sent}
 use Rattle.rc_agreement.proofs.Ballots.{Late}
 use Rattle.rc_agreement.proofs.ClientRows.{Offer, Ready, client_tame}
 use Rattle.rc_serial_order.proofs.ClientKeeps.{client_keeps}
 use Rattle.rc_causes.proofs.ReadSlots.{Has, Stays, read_stays}
-use Rattle.rc_causes.proofs.Moves.{Delivers, ClientWhy}
-use Rattle.rc_quiet.proofs.Parts.{Sent, IsBegun, IsDone, Own, Fits, ClientShape, ClientSaid}
+use Rattle.rc_causes.proofs.Moves.{ClientWhy}
+use Rattle.rc_quiet.proofs.Parts.{Sent, IsBegun, IsDone, Own, Fits, ClientSaid}
 use Rattle.rc_quiet.proofs.Ending.{in_message}
 use Rattle.rc_quiet.proofs.Growing.{posted_in, more_in, own_on}
 use Rattle.rc_quiet.proofs.ClientSays.{Speaks, client_says}

@@ -1,33 +1,27 @@
 -- What is known at the end of a quiet stretch.
-use Rattle.std.proofs.Common.{◌≡◌, ℕ, ◌≤◌, List, [], ◌∷◌, ◌++◌, refl, sym, ap, ◌∙◌, subst, Bool, true, false, cond, Option, Some, None, ◌⊎◌, inl, inr, ⊎_elim, true≢false, arith}
-use Rattle.std.specs.Prelude.{map, filter, ◌&&◌, ◌==◌}
+use Rattle.std.proofs.Common.{◌≡◌, ℕ, ◌≤◌, List, [], ◌∷◌, refl, sym, ap, ◌∙◌, subst, Bool, true, false, Some, inl, inr, true≢false, arith}
+use Rattle.std.specs.Prelude.{◌&&◌, ◌==◌}
 use Rattle.std.specs.List.{list_any, list_all}
 use Rattle.std.specs.Ordering.{nat_cmp}
-use Rattle.std.proofs.lemmas.Bool.{eqb-true, eq-eqb}
-use Rattle.rc_ids.specs.Tables.{In, found, maybe, member, up_to}
-use Rattle.rc_ids.specs.Cluster.{Layout, IsLayout, is_dc, is_shard, is_quorum, shard_of}
-use Rattle.rc_ids.specs.Quorum.{QuorumLaws}
+use Rattle.rc_ids.specs.Tables.{In, found, member, up_to}
+use Rattle.rc_ids.specs.Cluster.{Layout, is_dc, is_shard, is_quorum, shard_of}
 use Rattle.rc_ids.proofs.QuorumFacts.{quorum_laws, in-up_to}
 use Rattle.rc_ids.specs.declared.names.Outcome.TheVariants.{Commit as Committed}
 use Rattle.rc_ids.specs.declared.names.Party.{Party}
 use Rattle.rc_body.specs.Bodies.{touches, touched}
 use Rattle.rc_body.specs.declared.entry.Entry.{Entry}
-use Rattle.rc_body.specs.declared.decision.Decision.{Decision}
 use Rattle.rc_body.specs.declared.decision.Decision.TheVariants.{Commit as CommitOf}
-use Rattle.rc_body.specs.declared.reason.Reason.{Reason}
-use Rattle.rc_msg.specs.declared.msg.Msg.TheVariants.{ReadAsk, Granted, Prepare, Prepared, Voted}
-use Rattle.rc_protocol.specs.Messages.{coordinator, shard_server, client_of}
+use Rattle.rc_msg.specs.declared.msg.Msg.TheVariants.{ReadAsk, Prepare}
+use Rattle.rc_protocol.specs.Messages.{coordinator, shard_server}
 use Rattle.rc_protocol.specs.Coordinator.{GatherState, has_all}
 use Rattle.rc_protocol.specs.Client.{Client, Slot, Open, is_open, is_under_way, KeyRead, UnderWay, NotRead, Complete, grants_of, granted_by, entry_of, body_of}
 use Rattle.rc_protocol.specs.Nodes.{CoordNode, ShardNode}
-use Rattle.rc_runs.specs.declared.event.Event.TheVariants.{Commit}
 use Rattle.rc_runs.specs.World.{World, coord_at, shard_at}
 use Rattle.rc_runs.specs.Refusals.{Happening, run}
-use Rattle.rc_claims.specs.Quiet.{IsQuiet, AreFew, AreDelivered, HasCommitted, moments, keys_of, shards_of}
-use Rattle.rc_agreement.proofs.Cases.{never, some_is}
-use Rattle.rc_agreement.proofs.Tables.{in_map, found_in}
-use Rattle.rc_agreement.proofs.Lists.{any_of, any_some, any_map, map_in}
-use Rattle.rc_agreement.proofs.Places.{coord_dc, dc_range}
+use Rattle.rc_claims.specs.Quiet.{IsQuiet, AreFew, AreDelivered, HasCommitted, keys_of, shards_of}
+use Rattle.rc_agreement.proofs.Tables.{in_map}
+use Rattle.rc_agreement.proofs.Lists.{any_of, any_some}
+use Rattle.rc_agreement.proofs.Places.{dc_range}
 use Rattle.rc_agreement.proofs.Ballots.{commit_is}
 use Rattle.rc_agreement.proofs.ClientSlots.{slot_in}
 use Rattle.rc_causes.proofs.ReadFits.{Fits, ClientFits}

@@ -1,5 +1,5 @@
 -- A coordinator that holds nothing of t says nothing of it, by each of its rows.
-use Rattle.std.proofs.Common.{◌≡◌, ℕ, List, [], ◌∷◌, refl, sym, ap, ◌∙◌, subst, Bool, true, false, cond, Option, Some, None, ◌⊎◌, inl, inr, ⊎_elim, max}
+use Rattle.std.proofs.Common.{◌≡◌, ℕ, List, [], ◌∷◌, refl, sym, ap, ◌∙◌, subst, Bool, true, false, cond, Option, Some, None, ◌⊎◌, inl, inr, ⊎_elim}
 use Rattle.std.specs.Prelude.{not, ◌&&◌, ◌==◌, nat_lt, length, ◌+◌}
 use Rattle.std.specs.Ordering.{nat_cmp}
 use Rattle.rc_ids.specs.Tables.{In, Table, found, put, member, maybe}
@@ -15,8 +15,8 @@ use Rattle.rc_msg.specs.declared.msg.Msg.TheVariants.{ReadAsk, ReadCancel, Grant
 use Rattle.rc_record.specs.declared.record.Record.{Record}
 use Rattle.rc_record.specs.declared.record.Record.TheVariants.{Head, Prepared as PartPrepared, Finished, Promised, Accepted, Decided as OutcomesDecided}
 use Rattle.rc_record.specs.CoordState.{CoordDurable, promise_of, outcome_of as listed_outcome, coord_applied}
-use Rattle.rc_protocol.specs.Messages.{Posts, coordinator, shard_server, client_of, one, to_each, to_all, most_entries}
-use Rattle.rc_protocol.specs.Coordinator.{CoordVolatile, CoordAct, GatherState, TakeoverState, Standing, coord_stays, coord_says, proposer, vote, accepts, finish_to, finish_posts, forgotten, coord_learns, opening, opens, takes_over, has_all, with_gather, prepare_to, gathers_on, gather_at, takes_proposal, refuses, accepted_at, on_propose, waiting_gather, said_yes, with_yes, on_prepared, promise_record, promises_at, on_ask, waiting_takeover, chooses, with_takeover, proposed, hears, on_promise, is_decided_by, tally_of, counted, with_vote, on_voted, on_decided, page_from, cursor_of, is_next_coord_page, with_coord_cursor, undecided, forgotten_all, finish_all_posts, outcomes_record, asks_next_coord_page, takes_page, on_catch_page, do_catch, coord_row}
+use Rattle.rc_protocol.specs.Messages.{coordinator, shard_server, client_of, one, to_all, most_entries}
+use Rattle.rc_protocol.specs.Coordinator.{CoordVolatile, CoordAct, GatherState, TakeoverState, Standing, coord_stays, coord_says, proposer, vote, accepts, finish_to, finish_posts, forgotten, coord_learns, opening, takes_over, has_all, with_gather, prepare_to, gathers_on, gather_at, takes_proposal, refuses, accepted_at, on_propose, waiting_gather, said_yes, with_yes, on_prepared, on_ask, waiting_takeover, chooses, with_takeover, proposed, hears, on_promise, is_decided_by, tally_of, counted, on_voted, on_decided, page_from, cursor_of, is_next_coord_page, with_coord_cursor, undecided, forgotten_all, finish_all_posts, outcomes_record, on_catch_page, coord_row}
 use Rattle.rc_protocol.specs.Acts.{NodeCause, Came as Comes, Takes, Catches, coord_act}
 use Rattle.rc_protocol.specs.Nodes.{CoordNode, applied}
 use Rattle.rc_agreement.proofs.Cases.{on_cond, on_maybe}

@@ -1,14 +1,12 @@
 -- What a coordinator says and holds of t fits, by each of its rows.
-use Rattle.std.proofs.Common.{◌≡◌, ℕ, zero, suc, List, [], ◌∷◌, refl, sym, ap, ◌∙◌, subst, Bool, true, false, cond, Option, Some, None, ◌⊎◌, inl, inr, ⊎_elim, max}
+use Rattle.std.proofs.Common.{◌≡◌, ℕ, List, [], ◌∷◌, refl, sym, ap, ◌∙◌, subst, Bool, true, false, cond, Option, Some, None, inl, inr, ⊎_elim, max}
 use Rattle.std.specs.Prelude.{not, ◌&&◌, ◌==◌, nat_lt, length, ◌+◌}
 use Rattle.std.specs.Ordering.{nat_cmp}
 use Rattle.std.proofs.lemmas.Bool.{eqb-true}
 use Rattle.rc_ids.specs.Tables.{In, Table, found, put, member, maybe}
-use Rattle.rc_ids.specs.Cluster.{Layout, is_dc, is_shard, is_quorum, owner_of, next_ballot}
-use Rattle.rc_ids.specs.declared.names.Outcome.TheVariants.{Commit as Committed}
+use Rattle.rc_ids.specs.Cluster.{Layout, is_dc, is_shard, owner_of, next_ballot}
 use Rattle.rc_ids.specs.declared.names.Party.{Party}
 use Rattle.rc_body.specs.Bodies.{part, touches}
-use Rattle.rc_body.specs.Decisions.{outcome_of}
 use Rattle.rc_body.specs.declared.entry.Entry.{Entry}
 use Rattle.rc_body.specs.declared.decision.Decision.{Decision}
 use Rattle.rc_body.specs.declared.decision.Decision.TheVariants.{Commit, Abort}
@@ -20,15 +18,15 @@ use Rattle.rc_msg.specs.declared.msg.Msg.TheVariants.{Propose, Prepare, Prepared
 use Rattle.rc_record.specs.declared.record.Record.{Record}
 use Rattle.rc_record.specs.declared.record.Record.TheVariants.{Promised, Accepted, Decided as OutcomesDecided}
 use Rattle.rc_record.specs.CoordState.{CoordDurable, promise_of, outcome_of as listed_outcome}
-use Rattle.rc_protocol.specs.Messages.{Posts, coordinator, shard_server, client_of, one, to_each, to_all, most_entries}
-use Rattle.rc_protocol.specs.Coordinator.{CoordVolatile, CoordAct, GatherState, TakeoverState, Standing, nobody, stands_for, standing_for, standing_at, counted, coord_stays, coord_says, proposer, vote, accepts, finish_to, finish_posts, forgotten, coord_learns, opening, opens, takes_over, has_all, with_gather, prepare_to, gathers_on, gather_at, takes_proposal, refuses, accepted_at, on_propose, waiting_gather, said_yes, with_yes, on_prepared, promise_record, promises_at, on_ask, waiting_takeover, chooses, with_takeover, proposed, hears, on_promise, is_decided_by, tally_of, with_vote, on_voted, on_decided, page_from, cursor_of, is_next_coord_page, with_coord_cursor, undecided, forgotten_all, finish_all_posts, outcomes_record, asks_next_coord_page, takes_page, on_catch_page, do_catch, coord_row}
+use Rattle.rc_protocol.specs.Messages.{coordinator, shard_server, client_of, one, to_each, to_all, most_entries}
+use Rattle.rc_protocol.specs.Coordinator.{CoordVolatile, CoordAct, GatherState, TakeoverState, Standing, nobody, stands_for, standing_for, standing_at, counted, coord_stays, coord_says, proposer, vote, accepts, finish_to, finish_posts, forgotten, coord_learns, opening, takes_over, has_all, with_gather, prepare_to, gathers_on, gather_at, takes_proposal, refuses, accepted_at, on_propose, waiting_gather, said_yes, with_yes, on_prepared, promises_at, on_ask, waiting_takeover, chooses, with_takeover, proposed, hears, on_promise, is_decided_by, tally_of, with_vote, on_voted, on_decided, page_from, cursor_of, is_next_coord_page, with_coord_cursor, undecided, forgotten_all, finish_all_posts, outcomes_record, on_catch_page, coord_row}
 use Rattle.rc_protocol.specs.Acts.{NodeCause, Came as Comes, Takes, Catches, coord_act}
 use Rattle.rc_protocol.specs.Nodes.{CoordNode}
 use Rattle.rc_agreement.proofs.Cases.{on_cond, on_maybe, some_is, never, and_left}
 use Rattle.rc_agreement.proofs.Tables.{in_right, put_same, found_in, in_put, in_without, in_added}
 use Rattle.rc_agreement.proofs.Sends.{EachTo, to_none, to_one, to_both, to_many, to_coords}
 use Rattle.rc_agreement.proofs.HonestRows.{in_take, in_drop, in_filter}
-use Rattle.rc_quiet.proofs.Parts.{Sent, IsOwn, Own, HasTold, Voters, Told, Preparing, Fits, Tallies, CoordFits}
+use Rattle.rc_quiet.proofs.Parts.{Sent, Own, HasTold, Voters, Told, Fits, Tallies, CoordFits}
 
 -- a record that lists outcomes lists of t what was told
 abbrev pub Lists : ℕ → Layout → List Envelope → Option Record → Type 0

@@ -1,6 +1,5 @@
 -- At the end of a quiet stretch: what is kept, and the deliveries, leave the client no other phase than done.
-use Rattle.std.proofs.Common.{◌≡◌, ℕ, zero, suc, List, [], ◌∷◌, refl, sym, ap, ◌∙◌, subst, Bool, true, false, Option, Some, None, ◌⊎◌, inl, inr, ⊎_elim, true≢false}
-use Rattle.std.specs.Prelude.{slice_get}
+use Rattle.std.proofs.Common.{◌≡◌, ℕ, zero, suc, List, [], ◌∷◌, refl, sym, ap, ◌∙◌, subst, true, false, Option, Some, None, ◌⊎◌, inl, inr, ⊎_elim, true≢false}
 use Rattle.std.specs.Ordering.{nat_cmp}
 use Rattle.rc_ids.specs.Tables.{In, found, member}
 use Rattle.rc_ids.specs.Cluster.{is_quorum, is_dc}

@@ -1,6 +1,6 @@
 -- Each event of a quiet stretch keeps what holds of t.
-use Rattle.std.proofs.Common.{◌≡◌, ℕ, List, [], ◌∷◌, ◌++◌, refl, sym, ap, ◌∙◌, subst, Bool, true, false, cond, Option, Some, None, ◌⊎◌, inl, inr, ⊎_elim, true≢false}
-use Rattle.std.specs.Prelude.{◌&&◌, is_none}
+use Rattle.std.proofs.Common.{◌≡◌, ℕ, List, [], ◌++◌, refl, sym, ap, ◌∙◌, subst, Bool, true, false, Option, Some, None, ◌⊎◌, inl, inr, ⊎_elim, true≢false}
+use Rattle.std.specs.Prelude.{is_none}
 use Rattle.std.specs.Ordering.{nat_cmp}
 use Rattle.rc_ids.specs.Tables.{In, found, maybe}
 use Rattle.rc_ids.specs.declared.names.NodeId.{NodeId}
@@ -15,18 +15,17 @@ use Rattle.rc_protocol.specs.Messages.{Posts, coordinator, shard_server, client_
 use Rattle.rc_protocol.specs.Client.{Client, ClientAct, ClientRefusal, KeyWornOut}
 use Rattle.rc_protocol.specs.Shard.{do_catch as shard_catches, new_volatile as new_shard_volatile}
 use Rattle.rc_protocol.specs.Coordinator.{CoordAct, do_catch as coord_catches, new_volatile as new_coord_volatile}
-use Rattle.rc_protocol.specs.Acts.{NodeCause, Came as Comes, Catches, Takes, coord_act, shard_act, ClientCause, Hears, Reads, Writes, Commits, Cancels, Retries, Vanishes, client_act}
+use Rattle.rc_protocol.specs.Acts.{NodeCause, coord_act, shard_act, ClientCause, Hears, Reads, Writes, Commits, Cancels, Retries, Vanishes, client_act}
 use Rattle.rc_protocol.specs.Nodes.{CoordNode, ShardNode, coord_started, shard_started, coord_after, shard_after, coord_stopped, shard_stopped}
 use Rattle.rc_runs.specs.declared.event.Event.{Event}
-use Rattle.rc_runs.specs.declared.event.Event.TheVariants.{Begin, Read, Write, Commit, Cancel, Retry, Vanish, Take, Catch, Deliver, Lose, Crash, CrashAt, Restart}
-use Rattle.rc_runs.specs.World.{World, Parties, Deed, Idle, ByClient, ByCoord, ByShard, CoordStops, ShardStops, Course, kept_record, coord_at, shard_at, is_up, message, envelopes, deed, along, sends_of, with_coord, with_shard, with_client, after_begin, parties_after, delivered_after, actor, course_deed, step}
+use Rattle.rc_runs.specs.declared.event.Event.TheVariants.{Begin, Crash, Restart}
+use Rattle.rc_runs.specs.World.{World, Parties, Deed, Idle, ByClient, ByCoord, ByShard, CoordStops, ShardStops, Course, kept_record, coord_at, shard_at, is_up, envelopes, deed, along, sends_of, with_coord, with_shard, with_client, after_begin, parties_after, delivered_after, actor, course_deed, step}
 use Rattle.rc_runs.specs.Refusals.{Happening, wrong, is_begun, worn_out, limit_of, is_event}
 use Rattle.rc_claims.specs.Quiet.{DropsNothing}
-use Rattle.rc_agreement.proofs.Cases.{on_cond, some_is, never, nat_dec, and_left, and_right}
+use Rattle.rc_agreement.proofs.Cases.{on_cond, never, nat_dec, and_left, and_right}
 use Rattle.rc_agreement.proofs.Places.{coord_set, shard_set}
 use Rattle.rc_agreement.proofs.Agreeing.{not_begun}
-use Rattle.rc_causes.proofs.Moves.{Delivers, CoordWhy, ShardWhy, ClientWhy, Move, Rests, ClientActs, CoordActs, CoordWakes, CoordHalts, CoordCrashes, ShardActs, ShardWakes, ShardHalts, ShardCrashes, move_of, coord_joins, shard_joins, client_joins, coord_actor, shard_actor}
-use Rattle.rc_quiet.proofs.Kept.{Kept}
+use Rattle.rc_causes.proofs.Moves.{CoordWhy, ShardWhy, ClientWhy, Move, Rests, ClientActs, CoordActs, CoordWakes, CoordHalts, CoordCrashes, ShardActs, ShardWakes, ShardHalts, ShardCrashes, move_of, coord_joins, shard_joins, client_joins, coord_actor, shard_actor}
 use Rattle.rc_quiet.proofs.ClientDoes.{DropsNone}
 use Rattle.rc_quiet.proofs.Turns.{coord_acts, coord_halts, coord_crashes, coord_wakes, shard_halts, shard_crashes, shard_wakes}
 use Rattle.rc_quiet.proofs.Steps.{Moment, Holds, Shows, shown}

@@ -1,5 +1,5 @@
 -- What the laws on every run give of a world that a run reached.
-use Rattle.std.proofs.Common.{◌≡◌, ℕ, List, Some}
+use Rattle.std.proofs.Common.{◌≡◌, ℕ, Some}
 use Rattle.std.specs.Ordering.{nat_cmp}
 use Rattle.rc_ids.specs.Tables.{In, found}
 use Rattle.rc_ids.specs.Cluster.{Layout}

@@ -1,10 +1,9 @@
 -- In every run: the layout stays, nodes are the replay of their logs, and the keys of a client differ.
-use Rattle.std.proofs.Common.{◌≡◌, ℕ, zero, suc, ◌≤◌, List, [], ◌∷◌, ◌++◌, refl, sym, ap, ◌∙◌, subst, Bool, true, false, cond, Option, Some, None, ◌⊎◌, inl, inr, ⊎_elim, true≢false, arith}
+use Rattle.std.proofs.Common.{◌≡◌, ℕ, List, [], ◌∷◌, refl, sym, ap, ◌∙◌, subst, Bool, true, false, cond, Option, Some, None, ⊎_elim, arith}
 use Rattle.std.specs.Ordering.{nat_cmp}
-use Rattle.rc_ids.specs.Tables.{In, Table, found, put, maybe}
+use Rattle.rc_ids.specs.Tables.{In, found, put}
 use Rattle.rc_ids.specs.Texts.{same_key}
 use Rattle.rc_ids.specs.Cluster.{Layout}
-use Rattle.rc_body.specs.declared.entry.Entry.{Entry}
 use Rattle.rc_body.specs.declared.decision.Decision.{Decision}
 use Rattle.rc_msg.specs.declared.msg.Msg.{Msg}
 use Rattle.rc_msg.specs.declared.msg.Msg.TheVariants.{Granted}
@@ -13,14 +12,14 @@ use Rattle.rc_record.specs.declared.record.Record.TheVariants.{Head, Prepared, F
 use Rattle.rc_record.specs.CoordState.{CoordDurable, coord_applied}
 use Rattle.rc_record.specs.ShardState.{ShardDurable, shard_applied, settled, settled_new, settled_all, new_durable}
 use Rattle.rc_protocol.specs.Client.{Client, ClientAct, Slot, Grant, new_client, slot_of, client_refuses}
-use Rattle.rc_protocol.specs.Acts.{NodeCause, Catches, coord_act, shard_act, ClientCause, Hears, Reads, Writes, Commits, Cancels, Retries, Vanishes, client_by_row, client_act, refusal}
+use Rattle.rc_protocol.specs.Acts.{Catches, coord_act, shard_act, ClientCause, Hears, Reads, Writes, Commits, Cancels, Retries, Vanishes, client_by_row, client_act, refusal}
 use Rattle.rc_protocol.specs.Nodes.{CoordNode, ShardNode, coord_started, shard_started, coord_after, shard_after, coord_stopped, shard_stopped, shard_replayed, applied, logged}
 use Rattle.rc_runs.specs.declared.event.Event.{Event}
 use Rattle.rc_runs.specs.declared.event.Event.TheVariants.{Begin}
 use Rattle.rc_runs.specs.World.{World, Parties, Deed, Idle, ByClient, ByCoord, ByShard, CoordStops, ShardStops, Course, kept_record, coord_at, shard_at, replaced, with_client, with_coord, with_shard, with_new_client, after_begin, parties_after, course_deed, step}
-use Rattle.rc_runs.specs.Refusals.{Happening, is_event, run}
+use Rattle.rc_runs.specs.Refusals.{Happening}
 use Rattle.rc_claims.specs.Quiet.{moments}
-use Rattle.rc_agreement.proofs.Cases.{on_maybe, never, some_is, nat_dec}
+use Rattle.rc_agreement.proofs.Cases.{on_maybe, some_is, nat_dec}
 use Rattle.rc_agreement.proofs.Tables.{RisesFrom, rises_put, rises_without, put_cases, set_cases}
 use Rattle.rc_agreement.proofs.Places.{coord_set, coord_set_other, shard_set, shard_set_other}
 use Rattle.rc_agreement.proofs.Promises.{replayed, replay_logged}

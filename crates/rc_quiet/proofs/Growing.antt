@@ -1,6 +1,6 @@
 -- What fits still fits as messages are added.
-use Rattle.std.proofs.Common.{◌≡◌, ℕ, List, [], ◌∷◌, ◌++◌, refl, ◌⊎◌, Some, true, inl, inr, ⊎_elim}
-use Rattle.rc_ids.specs.Tables.{In, found}
+use Rattle.std.proofs.Common.{ℕ, List, [], ◌∷◌, ◌++◌, inl, inr, ⊎_elim}
+use Rattle.rc_ids.specs.Tables.{In}
 use Rattle.rc_ids.specs.Cluster.{Layout}
 use Rattle.rc_ids.specs.declared.names.Party.{Party}
 use Rattle.rc_body.specs.declared.entry.Entry.{Entry}
@@ -8,12 +8,12 @@ use Rattle.rc_body.specs.declared.decision.Decision.{Decision}
 use Rattle.rc_msg.specs.declared.msg.Envelope.{Envelope}
 use Rattle.rc_msg.specs.declared.msg.Msg.{Msg}
 use Rattle.rc_msg.specs.declared.msg.Msg.TheVariants.{ReadAsk, Granted, Propose, Prepare, Prepared, Voted, Ask, Decided, Finish, CatchPage}
-use Rattle.rc_protocol.specs.Messages.{Posts, coordinator, shard_server, client_of}
+use Rattle.rc_protocol.specs.Messages.{Posts}
 use Rattle.rc_protocol.specs.Client.{Client}
 use Rattle.rc_protocol.specs.Nodes.{CoordNode, ShardNode}
 use Rattle.rc_runs.specs.World.{envelopes}
 use Rattle.rc_agreement.proofs.Tables.{in_left, in_right}
-use Rattle.rc_quiet.proofs.Parts.{Sent, Own, HasTold, Voters, Told, Preparing, Answering, Fits, Tallies, CoordFits, ShardFits, Answers, SaysYes}
+use Rattle.rc_quiet.proofs.Parts.{Sent, Own, HasTold, Told, Preparing, Answering, Fits, CoordFits, ShardFits, Answers, SaysYes}
 
 -- what an act says is sent with it
 pub posted_in : (sent : List Envelope) (from : Party) (ms : Posts) (to : Party) (m : Msg) → In (to, m) ms → Sent (sent ++ envelopes from ms) from to m

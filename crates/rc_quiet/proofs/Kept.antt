@@ -1,27 +1,23 @@
 -- What an event keeps of t, where one party acts: it says only what fits, and what it holds then fits.
-use Rattle.std.proofs.Common.{◌≡◌, ℕ, List, [], ◌++◌, refl, sym, ap, ◌∙◌, subst, true, Option, Some, None, ◌⊎◌, inl, inr, ⊎_elim}
+use Rattle.std.proofs.Common.{◌≡◌, ℕ, List, ◌++◌, refl, sym, ap, ◌∙◌, subst, Option, Some, None, ◌⊎◌, ⊎_elim}
 use Rattle.std.specs.Ordering.{nat_cmp}
-use Rattle.std.proofs.lemmas.List.{append-nil}
-use Rattle.rc_ids.specs.Tables.{In, Table, found, put}
-use Rattle.rc_ids.specs.Cluster.{Layout, is_dc, is_quorum}
+use Rattle.rc_ids.specs.Tables.{In, found, put}
 use Rattle.rc_ids.specs.declared.names.Party.{Party}
 use Rattle.rc_body.specs.declared.decision.Decision.{Decision}
 use Rattle.rc_body.specs.declared.reason.Reason.{Reason}
 use Rattle.rc_msg.specs.declared.msg.Envelope.{Envelope}
-use Rattle.rc_msg.specs.declared.msg.Msg.{Msg}
 use Rattle.rc_msg.specs.declared.msg.Msg.TheVariants.{ReadAsk, Propose, Prepared}
 use Rattle.rc_record.specs.declared.record.Record.{Record}
 use Rattle.rc_record.specs.CoordState.{promise_of}
 use Rattle.rc_protocol.specs.Messages.{Posts, coordinator, shard_server, client_of}
-use Rattle.rc_protocol.specs.Client.{Client, Slot, new_client, is_unread, is_proposed, body_of}
+use Rattle.rc_protocol.specs.Client.{Client, new_client}
 use Rattle.rc_protocol.specs.Nodes.{CoordNode, ShardNode}
 use Rattle.rc_runs.specs.World.{Parties, coord_at, shard_at, envelopes, replaced, with_client, with_coord, with_shard, with_new_client}
 use Rattle.rc_agreement.proofs.Cases.{never, some_is, nat_dec}
 use Rattle.rc_agreement.proofs.Tables.{put_cases, set_cases}
 use Rattle.rc_agreement.proofs.Places.{coord_set, coord_set_other, shard_set, shard_set_other}
 use Rattle.rc_agreement.proofs.Sends.{EachTo, in_sent}
-use Rattle.rc_causes.proofs.ReadSlots.{Has}
-use Rattle.rc_quiet.proofs.Parts.{Sent, IsBegun, Fits, CoordFits, ShardFits, ClientShape, ClientSaid}
+use Rattle.rc_quiet.proofs.Parts.{Sent, Fits, CoordFits, ShardFits, ClientShape, ClientSaid}
 use Rattle.rc_quiet.proofs.Growing.{more_in, own_on, fits_on, coord_on, shard_on}
 use Rattle.rc_quiet.proofs.MemberShards.{NotNo}
 

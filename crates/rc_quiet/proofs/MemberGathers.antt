@@ -1,27 +1,27 @@
 -- How a coordinator takes the proposal of t, and a yes for it, where it has promised no higher ballot.
-use Rattle.std.proofs.Common.{◌≡◌, ℕ, zero, suc, ◌≤◌, List, [], ◌∷◌, ◌++◌, refl, sym, ap, ◌∙◌, subst, Bool, true, false, cond, Option, Some, None, ◌⊎◌, inl, inr, ⊎_elim, true≢false, max, arith}
+use Rattle.std.proofs.Common.{◌≡◌, ℕ, zero, suc, ◌≤◌, List, [], ◌∷◌, refl, sym, ap, ◌∙◌, subst, Bool, true, false, cond, Option, Some, None, ◌⊎◌, inl, inr, ⊎_elim, true≢false, max, arith}
 use Rattle.std.specs.Prelude.{not, ◌&&◌, ◌==◌, nat_lt}
 use Rattle.std.specs.Ordering.{nat_cmp}
 use Rattle.std.proofs.lemmas.Bool.{eqb-true}
 use Rattle.rc_ids.specs.Tables.{In, found, member, added, maybe, up_to}
 use Rattle.rc_ids.specs.Cluster.{Layout, IsLayout, is_shard, shard_of}
 use Rattle.rc_ids.proofs.QuorumFacts.{in-member, member-in}
-use Rattle.rc_body.specs.Bodies.{part, touches, touched}
+use Rattle.rc_body.specs.Bodies.{part, touches}
 use Rattle.rc_body.specs.declared.entry.Entry.{Entry}
 use Rattle.rc_body.specs.declared.decision.Decision.{Decision}
 use Rattle.rc_body.specs.declared.decision.Decision.TheVariants.{Commit}
 use Rattle.rc_msg.specs.declared.msg.Msg.TheVariants.{Prepare, Voted, Decided}
 use Rattle.rc_record.specs.CoordState.{CoordDurable, promise_of, outcome_of as listed_outcome}
-use Rattle.rc_protocol.specs.Messages.{Posts, coordinator, shard_server, client_of, one, to_each, to_all}
-use Rattle.rc_protocol.specs.Coordinator.{CoordVolatile, CoordAct, GatherState, coord_stays, coord_says, proposer, vote, accepts, has_all, with_gather, prepare_to, gathers_on, gather_at, accepted_at, on_propose, waiting_gather, said_yes, with_yes, on_prepared}
-use Rattle.rc_agreement.proofs.Cases.{on_cond, on_maybe, some_is, never, nat_dec, and_left}
+use Rattle.rc_protocol.specs.Messages.{shard_server, client_of, one, to_each, to_all}
+use Rattle.rc_protocol.specs.Coordinator.{CoordVolatile, CoordAct, GatherState, coord_stays, coord_says, proposer, vote, has_all, prepare_to, gathers_on, gather_at, accepted_at, on_propose, waiting_gather, said_yes, with_yes, on_prepared}
+use Rattle.rc_agreement.proofs.Cases.{on_cond, on_maybe, some_is, never}
 use Rattle.rc_agreement.proofs.Tables.{in_right, in_either, put_same, added_has}
 use Rattle.rc_agreement.proofs.Lists.{any_of}
 use Rattle.rc_agreement.proofs.Sends.{EachTo, to_none}
 use Rattle.rc_serial_order.proofs.KeyFacts.{in_filtered}
 use Rattle.rc_serial_order.proofs.Bodies.{touched_by}
 use Rattle.rc_quiet.proofs.ClientRows.{in_each}
-use Rattle.rc_quiet.proofs.MemberRows.{NoPrepare, Knows, TellsVote, list_keeps, knows}
+use Rattle.rc_quiet.proofs.MemberRows.{NoPrepare, Knows, TellsVote, knows}
 
 -- SHARDS
 in_up : (n k : ℕ) → In k (up_to n) → (1 ≤ k) × (k ≤ n)

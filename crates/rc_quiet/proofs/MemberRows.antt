@@ -1,13 +1,11 @@
 -- How far a coordinator comes with t, by each of its rows: it asks its shards, votes, or knows the outcome.
-use Rattle.std.proofs.Common.{◌≡◌, ℕ, List, [], ◌∷◌, ◌++◌, refl, sym, ap, ◌∙◌, subst, Bool, true, false, cond, Option, Some, None, ◌⊎◌, inl, inr, ⊎_elim, true≢false, max}
+use Rattle.std.proofs.Common.{◌≡◌, ℕ, List, [], ◌∷◌, ◌++◌, refl, sym, ap, ◌∙◌, subst, Bool, true, false, cond, Option, Some, None, ◌⊎◌, inl, inr, ⊎_elim}
 use Rattle.std.specs.Prelude.{not, ◌&&◌, ◌==◌, nat_lt, length, ◌+◌}
 use Rattle.std.specs.Ordering.{nat_cmp}
-use Rattle.rc_ids.specs.Tables.{In, Table, found, put, without, member, added, maybe}
+use Rattle.rc_ids.specs.Tables.{In, found, put, member, maybe}
 use Rattle.rc_ids.specs.Cluster.{Layout, is_dc, is_shard, owner_of, next_ballot}
-use Rattle.rc_ids.proofs.QuorumFacts.{in-member, member-in}
 use Rattle.rc_ids.specs.declared.names.Party.{Party}
 use Rattle.rc_body.specs.Bodies.{part, touches}
-use Rattle.rc_body.specs.declared.entry.Entry.{Entry}
 use Rattle.rc_body.specs.declared.decision.Decision.{Decision}
 use Rattle.rc_body.specs.declared.decision.Decision.TheVariants.{Commit, Abort}
 use Rattle.rc_body.specs.declared.reason.Reason.{Reason}
@@ -17,12 +15,12 @@ use Rattle.rc_msg.specs.declared.msg.Msg.TheVariants.{Propose, Prepare, Prepared
 use Rattle.rc_record.specs.declared.record.Record.{Record}
 use Rattle.rc_record.specs.declared.record.Record.TheVariants.{Head, Prepared as PartPrepared, Finished, Promised, Accepted, Decided as OutcomesDecided}
 use Rattle.rc_record.specs.CoordState.{CoordDurable, promise_of, outcome_of as listed_outcome, outcomes_joined, coord_applied}
-use Rattle.rc_protocol.specs.Messages.{Posts, coordinator, shard_server, client_of, one, to_each, to_all, most_entries}
-use Rattle.rc_protocol.specs.Coordinator.{CoordVolatile, CoordAct, GatherState, coord_stays, coord_says, proposer, vote, accepts, finish_to, finish_posts, forgotten, coord_learns, opens, takes_over, has_all, with_gather, prepare_to, gathers_on, gather_at, takes_proposal, refuses, accepted_at, on_propose, waiting_gather, said_yes, with_yes, on_prepared, promises_at, on_ask, waiting_takeover, chooses, with_takeover, proposed, hears, on_promise, is_decided_by, tally_of, with_vote, on_voted, on_decided, page_from, cursor_of, is_next_coord_page, with_coord_cursor, undecided, forgotten_all, finish_all_posts, outcomes_record, asks_next_coord_page, takes_page, on_catch_page, do_catch, coord_row}
+use Rattle.rc_protocol.specs.Messages.{Posts, coordinator, shard_server, client_of, one, to_all, most_entries}
+use Rattle.rc_protocol.specs.Coordinator.{CoordVolatile, CoordAct, GatherState, coord_stays, coord_says, proposer, vote, finish_to, finish_posts, forgotten, coord_learns, takes_over, has_all, prepare_to, gathers_on, gather_at, takes_proposal, accepted_at, on_propose, waiting_gather, said_yes, with_yes, on_prepared, on_ask, waiting_takeover, chooses, with_takeover, proposed, hears, on_promise, is_decided_by, tally_of, on_voted, on_decided, page_from, cursor_of, is_next_coord_page, with_coord_cursor, undecided, forgotten_all, finish_all_posts, outcomes_record, asks_next_coord_page, takes_page, on_catch_page, coord_row}
 use Rattle.rc_protocol.specs.Acts.{NodeCause, Came as Comes, Takes, Catches, coord_act}
-use Rattle.rc_protocol.specs.Nodes.{CoordNode, applied}
-use Rattle.rc_agreement.proofs.Cases.{on_cond, on_maybe, some_is, never, nat_dec, not_true}
-use Rattle.rc_agreement.proofs.Tables.{in_left, in_right, in_either, put_same, put_other, without_other, found_in, added_has}
+use Rattle.rc_protocol.specs.Nodes.{applied}
+use Rattle.rc_agreement.proofs.Cases.{on_cond, on_maybe, nat_dec}
+use Rattle.rc_agreement.proofs.Tables.{in_left, in_right, put_other, without_other, found_in}
 use Rattle.rc_agreement.proofs.Sends.{EachTo, to_none, to_one, to_both, to_many, to_coords}
 
 -- WHAT IS LISTED

@@ -1,6 +1,6 @@
 -- A shard server of a member grants t's reads, says yes to its prepare, and loses none of its locks, where nobody else is prepared with a
 -- key of t and no row of such a key is newer than what t read.
-use Rattle.std.proofs.Common.{◌≡◌, ℕ, ◌<◌, ◌≤◌, suc, List, [], ◌∷◌, ◌++◌, refl, sym, ap, ◌∙◌, subst, Bool, true, false, cond, Option, Some, None, ◌⊎◌, inl, inr, ⊎_elim, true≢false, arith}
+use Rattle.std.proofs.Common.{◌≡◌, ℕ, ◌≤◌, suc, List, [], ◌∷◌, refl, sym, ap, ◌∙◌, subst, Bool, true, false, cond, Option, Some, None, ◌⊎◌, inl, inr, ⊎_elim, true≢false, arith}
 use Rattle.std.specs.Prelude.{filter, not, ◌&&◌, ◌||◌, is_some, ◌==◌, nat_lt, length, ◌+◌}
 use Rattle.std.specs.Ordering.{nat_cmp, is_eq}
 use Rattle.std.specs.FinMap.{nat_cmp-IsAntisymmetric}
@@ -13,19 +13,19 @@ use Rattle.rc_body.specs.Bodies.{has_key, writes}
 use Rattle.rc_body.specs.declared.entry.Entry.{Entry}
 use Rattle.rc_body.specs.declared.decision.Decision.{Decision}
 use Rattle.rc_body.specs.declared.reason.Reason.{Reason}
-use Rattle.rc_body.specs.declared.reason.Reason.TheVariants.{Locked, Lost, Stale}
+use Rattle.rc_body.specs.declared.reason.Reason.TheVariants.{Locked}
 use Rattle.rc_msg.specs.declared.msg.Msg.{Msg}
 use Rattle.rc_msg.specs.declared.msg.Msg.TheVariants.{ReadAsk, ReadCancel, Granted, Prepare, Prepared, Finish, CatchAsk, CatchPage}
 use Rattle.rc_record.specs.ShardState.{ShardDurable, version_at, value_at, settled_all}
 use Rattle.rc_record.specs.declared.record.Record.TheVariants.{Prepared as PartPrepared}
 use Rattle.rc_protocol.specs.Messages.{Posts, coordinator, client_of}
-use Rattle.rc_protocol.specs.Shard.{Mark, mark_cmp, ShardVolatile, ShardAct, first_part, holder, reader, locked, lost_by, stale, first_reason, test, shard_stays, shard_says, grant_of, is_free, added_all, granted, grants, ignores_ask, on_read_ask, locks_plain, is_taken, preempted, answers, on_prepare, on_finish, finishes_page, forgotten_all, unfinished, is_next_shard_page, with_shard_cursor, asks_next_shard_page, then_says, takes_page, on_catch_page, shard_row}
+use Rattle.rc_protocol.specs.Shard.{mark_cmp, ShardVolatile, ShardAct, first_part, holder, reader, locked, lost_by, stale, first_reason, test, shard_stays, shard_says, grant_of, is_free, grants, ignores_ask, on_read_ask, locks_plain, is_taken, answers, on_prepare, finishes_page, forgotten_all, unfinished, is_next_shard_page, with_shard_cursor, asks_next_shard_page, then_says, takes_page, shard_row}
 use Rattle.rc_protocol.specs.Acts.{NodeCause, Came as Comes, Takes, Catches, shard_act}
-use Rattle.rc_agreement.proofs.Cases.{on_cond, on_maybe, some_is, never, and_left, and_right, not_true}
+use Rattle.rc_agreement.proofs.Cases.{on_cond, on_maybe, never, and_left, and_right, not_true}
 use Rattle.rc_agreement.proofs.Tables.{RisesFrom, to_equal, nat_tied}
 use Rattle.rc_agreement.proofs.Sends.{EachTo, to_none, to_one, to_both, to_map}
 use Rattle.rc_serial_order.proofs.KeyFacts.{in_filtered}
-use Rattle.rc_quiet.proofs.ShardFitRows.{Fewer, fewer_all, in_added_all, in_cleared}
+use Rattle.rc_quiet.proofs.ShardFitRows.{fewer_all, in_added_all}
 
 -- TABLES
 -- in a table whose keys rise what stands is found

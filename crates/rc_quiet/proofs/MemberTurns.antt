@@ -1,38 +1,35 @@
 -- How far a member has come with t, after each event.
-use Rattle.std.proofs.Common.{◌≡◌, ℕ, List, [], ◌++◌, refl, sym, ap, ◌∙◌, subst, true, false, Option, Some, None, ◌⊎◌, inl, inr, ⊎_elim}
+use Rattle.std.proofs.Common.{◌≡◌, ℕ, List, ◌++◌, refl, sym, ap, ◌∙◌, subst, true, Some, None, ◌⊎◌, inl, inr, ⊎_elim}
 use Rattle.std.specs.Ordering.{nat_cmp}
 use Rattle.rc_ids.specs.Tables.{In, found, member}
-use Rattle.rc_ids.specs.Cluster.{Layout, IsLayout, is_shard}
-use Rattle.rc_ids.specs.declared.names.Outcome.TheVariants.{Commit as Committed}
+use Rattle.rc_ids.specs.Cluster.{Layout, IsLayout}
 use Rattle.rc_ids.specs.declared.names.Party.{Party}
 use Rattle.rc_body.specs.Bodies.{part, touches}
-use Rattle.rc_body.specs.Decisions.{outcome_of}
 use Rattle.rc_body.specs.declared.entry.Entry.{Entry}
 use Rattle.rc_body.specs.declared.decision.Decision.{Decision}
 use Rattle.rc_body.specs.declared.decision.Decision.TheVariants.{Commit, Abort}
-use Rattle.rc_body.specs.declared.reason.Reason.{Reason}
 use Rattle.rc_msg.specs.declared.msg.Envelope.{Envelope}
 use Rattle.rc_msg.specs.declared.msg.Msg.{Msg}
-use Rattle.rc_msg.specs.declared.msg.Msg.TheVariants.{Propose, Prepare, Prepared, Voted}
+use Rattle.rc_msg.specs.declared.msg.Msg.TheVariants.{Propose, Prepare, Prepared}
 use Rattle.rc_record.specs.CoordState.{promise_of}
-use Rattle.rc_protocol.specs.Messages.{Posts, coordinator, shard_server, client_of}
+use Rattle.rc_protocol.specs.Messages.{Posts, coordinator, shard_server}
 use Rattle.rc_protocol.specs.Coordinator.{CoordAct, GatherState, on_propose}
 use Rattle.rc_protocol.specs.Acts.{NodeCause, Came as Comes, Catches, Takes, coord_act}
 use Rattle.rc_protocol.specs.Nodes.{CoordNode, coord_after}
 use Rattle.rc_runs.specs.declared.event.Event.{Event}
-use Rattle.rc_runs.specs.declared.event.Event.TheVariants.{Deliver, Catch, Take}
+use Rattle.rc_runs.specs.declared.event.Event.TheVariants.{Deliver}
 use Rattle.rc_runs.specs.World.{World, coord_at, message, envelopes, delivered_after}
 use Rattle.rc_runs.specs.Refusals.{wrong}
 use Rattle.rc_agreement.proofs.Cases.{nat_dec}
 use Rattle.rc_agreement.proofs.Tables.{found_in}
-use Rattle.rc_agreement.proofs.Sends.{EachTo, in_sent}
-use Rattle.rc_causes.proofs.Moves.{Delivers, CoordWhy}
+use Rattle.rc_agreement.proofs.Sends.{in_sent}
+use Rattle.rc_causes.proofs.Moves.{CoordWhy}
 use Rattle.rc_quiet.proofs.Parts.{Sent, Came, HasTold, IsFresh, IsGathering, HasListed, Goes}
 use Rattle.rc_quiet.proofs.Ending.{in_message}
 use Rattle.rc_quiet.proofs.Growing.{posted_in, more_in, told_vote_on}
 use Rattle.rc_quiet.proofs.Kept.{Kept}
 use Rattle.rc_quiet.proofs.Arrivals.{AreSent, came_now, one_delivered}
-use Rattle.rc_quiet.proofs.MemberRows.{NoPrepare, IsOther, Still, Knows, TellsVote, list_keeps, other_row}
+use Rattle.rc_quiet.proofs.MemberRows.{IsOther, Still, Knows, TellsVote, list_keeps, other_row}
 use Rattle.rc_quiet.proofs.MemberGathers.{Asks, Hears, propose_row, guarded_row}
 
 -- what a cause is to t

@@ -1,31 +1,28 @@
 -- What an event in which a node acts shows of t.
-use Rattle.std.proofs.Common.{◌≡◌, ℕ, List, [], ◌∷◌, ◌++◌, refl, sym, ap, ◌∙◌, subst, Bool, true, false, Option, Some, None, ◌⊎◌, inl, inr, ⊎_elim, true≢false}
+use Rattle.std.proofs.Common.{◌≡◌, ℕ, List, ◌++◌, refl, sym, ap, ◌∙◌, subst, Option, Some, None, ⊎_elim}
 use Rattle.std.specs.Ordering.{nat_cmp}
-use Rattle.rc_ids.specs.Tables.{In, Table, found, member}
-use Rattle.rc_ids.specs.Cluster.{Layout, IsLayout, shard_of}
+use Rattle.rc_ids.specs.Tables.{In, found}
 use Rattle.rc_ids.specs.declared.names.Outcome.TheVariants.{Commit as Committed}
 use Rattle.rc_ids.specs.declared.names.Party.{Party}
 use Rattle.rc_body.specs.declared.entry.Entry.{Entry}
 use Rattle.rc_body.specs.declared.decision.Decision.{Decision}
-use Rattle.rc_msg.specs.declared.msg.Envelope.{Envelope}
 use Rattle.rc_msg.specs.declared.msg.Msg.{Msg}
 use Rattle.rc_msg.specs.declared.msg.Msg.TheVariants.{ReadAsk, Granted, Prepare, Voted, Propose}
 use Rattle.rc_record.specs.declared.record.Record.{Record}
 use Rattle.rc_protocol.specs.Messages.{Posts, coordinator, shard_server, client_of}
 use Rattle.rc_protocol.specs.Client.{Client, Slot, Complete}
-use Rattle.rc_protocol.specs.Shard.{ShardAct, test, on_read_ask, on_prepare}
-use Rattle.rc_protocol.specs.Coordinator.{CoordAct}
+use Rattle.rc_protocol.specs.Shard.{ShardAct}
 use Rattle.rc_protocol.specs.Acts.{NodeCause, Came as Comes, Catches, Takes, coord_act, shard_act}
 use Rattle.rc_protocol.specs.Nodes.{CoordNode, ShardNode, coord_after, shard_after}
 use Rattle.rc_runs.specs.declared.event.Event.{Event}
-use Rattle.rc_runs.specs.declared.event.Event.TheVariants.{Deliver, Catch}
+use Rattle.rc_runs.specs.declared.event.Event.TheVariants.{Deliver}
 use Rattle.rc_runs.specs.World.{World, Parties, coord_at, shard_at, message, envelopes, delivered_after, actor, with_coord, with_shard}
 use Rattle.rc_runs.specs.Refusals.{wrong}
 use Rattle.rc_claims.specs.Quiet.{HasNone}
 use Rattle.rc_agreement.proofs.Cases.{some_is, nat_dec}
 use Rattle.rc_agreement.proofs.Places.{coord_set, coord_set_other, shard_set, shard_set_other}
-use Rattle.rc_causes.proofs.Moves.{Delivers, CoordWhy, ShardWhy}
-use Rattle.rc_quiet.proofs.Parts.{Sent, Came, Goes, Answers, SaysYes}
+use Rattle.rc_causes.proofs.Moves.{CoordWhy, ShardWhy}
+use Rattle.rc_quiet.proofs.Parts.{Sent, Goes, Answers, SaysYes}
 use Rattle.rc_quiet.proofs.Ending.{in_message}
 use Rattle.rc_quiet.proofs.Kept.{Kept}
 use Rattle.rc_quiet.proofs.MemberShards.{Passes, Taken}

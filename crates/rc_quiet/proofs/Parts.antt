@@ -1,5 +1,5 @@
 -- What is kept of one transaction t in a stretch that is quiet for it: in messages, in coordinators, in shard servers, and at its client.
-use Rattle.std.proofs.Common.{◌≡◌, ℕ, List, [], ◌⊎◌, Option, None, Some, true, false}
+use Rattle.std.proofs.Common.{◌≡◌, ℕ, List, ◌⊎◌, Option, None, Some, true, false}
 use Rattle.std.specs.Ordering.{nat_cmp}
 use Rattle.rc_ids.specs.Tables.{In, Table, found, member}
 use Rattle.rc_ids.specs.Cluster.{Layout, is_quorum, is_dc, shard_of}
@@ -12,7 +12,6 @@ use Rattle.rc_body.specs.Decisions.{outcome_of}
 use Rattle.rc_body.specs.declared.entry.Entry.{Entry}
 use Rattle.rc_body.specs.declared.decision.Decision.{Decision}
 use Rattle.rc_body.specs.declared.decision.Decision.TheVariants.{Commit}
-use Rattle.rc_body.specs.declared.reason.Reason.{Reason}
 use Rattle.rc_msg.specs.declared.msg.Envelope.{Envelope}
 use Rattle.rc_msg.specs.declared.msg.Msg.{Msg}
 use Rattle.rc_msg.specs.declared.msg.Msg.TheVariants.{ReadAsk, Granted, Propose, Prepare, Prepared, Voted, Ask, Decided, Finish, CatchPage}

@@ -1,29 +1,24 @@
 -- Where the client of t becomes done in a stretch, its outcome is printed.
-use Rattle.std.proofs.Common.{◌≡◌, ℕ, List, [], ◌∷◌, ◌++◌, refl, sym, ap, ◌∙◌, subst, Bool, true, false, cond, Option, Some, None, ◌⊎◌, inl, inr, ⊎_elim, true≢false}
+use Rattle.std.proofs.Common.{◌≡◌, ℕ, List, [], ◌∷◌, ◌++◌, refl, sym, ap, ◌∙◌, subst, Bool, true, false, cond, Option, Some, None, inr, true≢false}
 use Rattle.std.specs.Ordering.{nat_cmp}
 use Rattle.rc_ids.specs.Tables.{In, found, maybe, member}
 use Rattle.rc_ids.specs.declared.names.Outcome.{Outcome}
 use Rattle.rc_ids.specs.declared.names.Outcome.TheVariants.{Commit as Committed}
 use Rattle.rc_body.specs.Decisions.{outcome_of}
 use Rattle.rc_body.specs.declared.decision.Decision.{Decision}
-use Rattle.rc_report.specs.declared.line.Line.{Line}
 use Rattle.rc_report.specs.declared.line.Line.TheVariants.{Learned}
-use Rattle.rc_report.specs.declared.fault.Wrong.{Wrong}
-use Rattle.rc_report.specs.declared.fault.Wrong.TheVariants.{NotBegun, NotOpen, Vanished as HasVanished}
-use Rattle.rc_protocol.specs.Client.{Client, ClientAct, ClientRefusal, KeyWornOut, NotOpen as IsNotOpen, Phase, Open, Committing, Proposed, Done, Vanished, is_open, is_done, is_vanished}
-use Rattle.rc_protocol.specs.Acts.{ClientCause, Commits, client_act, refusal, if_open}
-use Rattle.rc_runs.specs.declared.event.Event.{Event}
+use Rattle.rc_report.specs.declared.fault.Wrong.TheVariants.{NotBegun, Vanished as HasVanished}
+use Rattle.rc_protocol.specs.Client.{Client, NotOpen as IsNotOpen, is_open, is_done, is_vanished}
+use Rattle.rc_protocol.specs.Acts.{Commits, refusal}
 use Rattle.rc_runs.specs.declared.event.Event.TheVariants.{Commit}
-use Rattle.rc_runs.specs.World.{World, Deed, ByClient, Course, Goes, Stops, replaced, restart_lines, lines_of, course_deed, along, deed, printed, step}
-use Rattle.rc_runs.specs.Refusals.{Happening, name_of, wrong, wrong_of, named_wrongly, worn_out, limit_of, is_event, after_event, run, lines_at, lines}
-use Rattle.rc_claims.specs.Quiet.{DropsNothing, moments, events_of}
+use Rattle.rc_runs.specs.World.{World, Deed, restart_lines, lines_of, course_deed, printed, step}
+use Rattle.rc_runs.specs.Refusals.{Happening, name_of, wrong, wrong_of, is_event, after_event, run, lines_at, lines}
+use Rattle.rc_claims.specs.Quiet.{moments}
 use Rattle.rc_agreement.proofs.Cases.{on_cond, never, some_is}
-use Rattle.rc_agreement.proofs.Tables.{in_left, in_right, set_cases}
-use Rattle.rc_quiet.proofs.Stretches.{Rest, rest_of, event_split, now_in}
+use Rattle.rc_agreement.proofs.Tables.{in_left, in_right}
+use Rattle.rc_quiet.proofs.Stretches.{now_in}
 use Rattle.rc_quiet.proofs.ClientDone.{done_prints}
-use Rattle.rc_quiet.proofs.ClientKeys.{commit_shuts}
 use Rattle.rc_quiet.proofs.ClientAfter.{Becomes, Rested, Acted, client_after}
-use Rattle.rc_quiet.proofs.ClientOver.{Stands, stands_over}
 use Rattle.rc_quiet.proofs.EventSteps.{event_ok}
 
 -- one event

@@ -1,20 +1,19 @@
 -- The law of quiet quorums, of a world and a stretch of which the laws on every run have said what is needed.
-use Rattle.std.proofs.Common.{◌≡◌, ℕ, List, [], ◌∷◌, refl, sym, ap, ◌∙◌, subst, Bool, true, false, cond, Option, Some, None, ◌⊎◌, inl, inr, ⊎_elim, true≢false}
+use Rattle.std.proofs.Common.{◌≡◌, ℕ, List, [], refl, sym, ◌∙◌, subst, true, false, Option, Some, None, ⊎_elim, true≢false}
 use Rattle.std.specs.Ordering.{nat_cmp}
-use Rattle.rc_ids.specs.Tables.{In, Table, found, maybe}
+use Rattle.rc_ids.specs.Tables.{In, found, maybe}
 use Rattle.rc_ids.specs.Cluster.{Layout, is_dc, is_shard}
 use Rattle.rc_ids.specs.declared.names.Outcome.TheVariants.{Commit as Committed}
 use Rattle.rc_body.specs.Decisions.{outcome_of}
 use Rattle.rc_body.specs.declared.decision.Decision.{Decision}
 use Rattle.rc_report.specs.declared.line.Line.TheVariants.{Learned}
-use Rattle.rc_protocol.specs.Client.{Client, ClientAct, ClientRefusal, KeyWornOut, Phase, Open, Committing, Proposed, Done, Vanished, is_open, is_done}
+use Rattle.rc_protocol.specs.Client.{Client, ClientRefusal, KeyWornOut, Phase, Open, Committing, Proposed, Done, Vanished, is_open, is_done}
 use Rattle.rc_protocol.specs.Acts.{Commits, client_act, refusal}
 use Rattle.rc_protocol.specs.Nodes.{CoordNode, ShardNode}
 use Rattle.rc_runs.specs.declared.event.Event.TheVariants.{Commit}
-use Rattle.rc_runs.specs.World.{World, Deed, ByClient, Idle, Course, Goes, Stops, coord_at, shard_at, replaced, deed, along, course_deed, client_does, parties_after, step}
+use Rattle.rc_runs.specs.World.{World, Deed, ByClient, Course, Goes, Stops, coord_at, shard_at, replaced, course_deed, parties_after, step}
 use Rattle.rc_runs.specs.Refusals.{Happening, worn_out, limit_of, is_event, run, lines}
-use Rattle.rc_claims.specs.Quiet.{IsQuiet, AreFew, AreDelivered, HasCommitted, DropsNothing, moments, events_of, keys_of}
-use Rattle.rc_agreement.proofs.Cases.{never, some_is}
+use Rattle.rc_claims.specs.Quiet.{IsQuiet, AreFew, AreDelivered, HasCommitted, DropsNothing, moments, keys_of}
 use Rattle.rc_agreement.proofs.Tables.{set_cases}
 use Rattle.rc_causes.proofs.ReadFits.{ClientFits}
 use Rattle.rc_quiet.proofs.Parts.{HasListed}

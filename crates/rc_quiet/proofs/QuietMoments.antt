@@ -1,20 +1,17 @@
 -- The moments of a quiet stretch.
-use Rattle.std.proofs.Common.{◌≡◌, ℕ, ◌≤◌, List, [], ◌∷◌, refl, sym, ap, ◌∙◌, subst, Bool, true, false, Option, Some, None}
-use Rattle.std.specs.Prelude.{IsTrue}
+use Rattle.std.proofs.Common.{◌≡◌, ℕ, ◌≤◌, List, refl, sym, subst, true, false, Option, Some, None}
 use Rattle.std.specs.Ordering.{nat_cmp}
 use Rattle.rc_ids.specs.Tables.{In, found, maybe}
 use Rattle.rc_ids.specs.Cluster.{Layout, IsLayout, is_dc, shard_of}
-use Rattle.rc_body.specs.declared.entry.Entry.{Entry}
 use Rattle.rc_protocol.specs.Client.{Client, Slot, Complete}
 use Rattle.rc_protocol.specs.Nodes.{CoordNode, ShardNode}
 use Rattle.rc_record.specs.ShardState.{version_at}
-use Rattle.rc_runs.specs.World.{World, Parties, coord_at, shard_at, step}
+use Rattle.rc_runs.specs.World.{World, coord_at, shard_at, step}
 use Rattle.rc_runs.specs.Refusals.{Happening, is_event, run}
 use Rattle.rc_claims.specs.Quiet.{IsQuiet, DropsNothing, moments, events_of, keys_of}
-use Rattle.rc_agreement.proofs.Cases.{never}
 use Rattle.rc_agreement.proofs.Places.{coord_dc}
 use Rattle.rc_quiet.proofs.Facts.{Facts}
-use Rattle.rc_quiet.proofs.Stretches.{over, now_in, end_in}
+use Rattle.rc_quiet.proofs.Stretches.{over}
 use Rattle.rc_quiet.proofs.ClientOver.{keys_last}
 use Rattle.rc_quiet.proofs.Unknown.{Unknown}
 use Rattle.rc_quiet.proofs.Arrivals.{AreSent}

@@ -1,5 +1,5 @@
 -- Each row of a shard is the write of a transaction whose commit is chosen, and that is finished at this shard.
-use Rattle.std.proofs.Common.{◌≡◌, ℕ, List, [], ◌∷◌, ◌++◌, refl, sym, ap, ◌∙◌, subst, true, Option, Some, None, ◌⊎◌, inl, inr, ⊎_elim}
+use Rattle.std.proofs.Common.{◌≡◌, ℕ, List, [], ◌∷◌, ◌++◌, refl, sym, ap, ◌∙◌, subst, true, Option, Some, None, inl, inr, ⊎_elim}
 use Rattle.std.specs.Prelude.{is_some, ◌+◌, ◌==◌}
 use Rattle.std.specs.Ordering.{nat_cmp}
 use Rattle.rc_ids.specs.Tables.{In, Table, found, put}
@@ -7,19 +7,18 @@ use Rattle.rc_ids.specs.Texts.{key_cmp}
 use Rattle.rc_ids.specs.Cluster.{Layout, IsLayout, shard_of}
 use Rattle.rc_ids.specs.declared.names.Outcome.{Outcome}
 use Rattle.rc_ids.specs.declared.names.Outcome.TheVariants.{Commit as Committed, Abort as Aborted}
-use Rattle.rc_body.specs.Decisions.{outcome_of}
 use Rattle.rc_body.specs.declared.entry.Entry.{Entry}
 use Rattle.rc_body.specs.declared.decision.Decision.{Decision}
 use Rattle.rc_body.specs.declared.decision.Decision.TheVariants.{Commit, Abort}
 use Rattle.rc_msg.specs.declared.msg.Envelope.{Envelope}
 use Rattle.rc_record.specs.declared.record.Record.{Record}
 use Rattle.rc_record.specs.declared.record.Record.TheVariants.{Head, Prepared, Finished, Promised, Accepted, Decided}
-use Rattle.rc_record.specs.ShardState.{ShardDurable, version_at, set_rows, settled, settled_new, settled_all, shard_applied, new_durable}
+use Rattle.rc_record.specs.ShardState.{ShardDurable, settled, settled_new, settled_all, shard_applied}
 use Rattle.rc_protocol.specs.Nodes.{ShardNode, applied, coord_started, coord_stopped, shard_after, shard_stopped, shard_started}
 use Rattle.rc_protocol.specs.Messages.{shard_server}
 use Rattle.rc_protocol.specs.Acts.{client_by_row}
 use Rattle.rc_runs.specs.World.{envelopes, with_shard, new_world}
-use Rattle.rc_agreement.proofs.Cases.{on_maybe, some_is, never}
+use Rattle.rc_agreement.proofs.Cases.{on_maybe, never}
 use Rattle.rc_agreement.proofs.Tables.{put_cases, put_same}
 use Rattle.rc_agreement.proofs.Places.{put_server}
 use Rattle.rc_agreement.proofs.Scenes.{Scene, scene, at, shard_in, ThereIs, stopped, started, joined_by, acted, Keeps, act_of, shard_act_of}
@@ -27,7 +26,7 @@ use Rattle.rc_agreement.proofs.CoordKeeps.{moved}
 use Rattle.rc_agreement.proofs.Learning.{Learns, FinishesAt}
 use Rattle.rc_agreement.proofs.Longer.{Longer, longer_logged, longer_moved, learns_on}
 use Rattle.rc_agreement.proofs.Learned.{shard_half_notes, new_server}
-use Rattle.rc_agreement.proofs.ShardNotes.{ShardNotes, shard_notes, settled_is}
+use Rattle.rc_agreement.proofs.ShardNotes.{ShardNotes, shard_notes}
 use Rattle.rc_serial_order.proofs.KeyFacts.{in_filtered}
 use Rattle.rc_serial_order.proofs.Rows.{rows_set}
 use Rattle.rc_serial_order.proofs.Stored.{Stored, stored_kept}

@@ -1,26 +1,25 @@
 -- A shard server that holds nothing of t says nothing of it, by each of its rows.
-use Rattle.std.proofs.Common.{◌≡◌, ℕ, List, [], ◌∷◌, ◌++◌, refl, sym, ap, ◌∙◌, subst, Bool, true, false, Option, Some, None, ◌⊎◌, inl, inr, ⊎_elim}
-use Rattle.std.specs.Prelude.{filter, not, ◌&&◌, is_some, ◌==◌, length, ◌+◌}
+use Rattle.std.proofs.Common.{◌≡◌, ℕ, List, [], ◌∷◌, ◌++◌, sym, ap, subst, Some, None, ◌⊎◌, ⊎_elim}
+use Rattle.std.specs.Prelude.{filter, not, is_some, ◌==◌, length, ◌+◌}
 use Rattle.std.specs.Ordering.{nat_cmp}
-use Rattle.rc_ids.specs.Tables.{In, Table, found, put, member}
+use Rattle.rc_ids.specs.Tables.{In, found, member}
 use Rattle.rc_ids.specs.Cluster.{Layout, is_dc}
 use Rattle.rc_ids.specs.declared.names.Outcome.{Outcome}
 use Rattle.rc_ids.specs.declared.names.Party.{Party}
 use Rattle.rc_body.specs.declared.entry.Entry.{Entry}
 use Rattle.rc_body.specs.declared.decision.Decision.{Decision}
 use Rattle.rc_msg.specs.declared.msg.Msg.{Msg}
-use Rattle.rc_msg.specs.declared.msg.Msg.TheVariants.{ReadAsk, ReadCancel, Granted, Prepare, Prepared, Finish, CatchAsk, CatchPage}
-use Rattle.rc_record.specs.ShardState.{ShardDurable, settled, settled_new, settled_all, shard_applied}
-use Rattle.rc_protocol.specs.Messages.{coordinator, client_of}
-use Rattle.rc_protocol.specs.Shard.{Mark, mark_cmp, ShardVolatile, ShardAct, shard_stays, test, grant_of, is_free, added_all, granted, grants, locks_plain, waits, ignores_ask, on_read_ask, is_other, on_read_cancel, is_taken, preempted, on_prepare, finishes_page, on_finish, forgotten_all, unfinished, is_next_shard_page, with_shard_cursor, asks_next_shard_page, then_says, takes_page, on_catch_page, shard_row}
+use Rattle.rc_msg.specs.declared.msg.Msg.TheVariants.{ReadAsk, ReadCancel, Prepare, Prepared, Finish, CatchAsk, CatchPage}
+use Rattle.rc_record.specs.ShardState.{ShardDurable, settled_all, shard_applied}
+use Rattle.rc_protocol.specs.Messages.{coordinator}
+use Rattle.rc_protocol.specs.Shard.{Mark, mark_cmp, ShardVolatile, ShardAct, shard_stays, test, grant_of, is_free, locks_plain, waits, ignores_ask, on_read_ask, is_other, is_taken, on_prepare, finishes_page, on_finish, forgotten_all, unfinished, is_next_shard_page, with_shard_cursor, asks_next_shard_page, then_says, takes_page, on_catch_page, shard_row}
 use Rattle.rc_protocol.specs.Acts.{NodeCause, Came as Comes, Takes, Catches, shard_act}
 use Rattle.rc_protocol.specs.Nodes.{ShardNode, applied}
-use Rattle.rc_agreement.proofs.Cases.{on_cond, on_maybe, never}
-use Rattle.rc_agreement.proofs.Tables.{in_put, in_without, in_either, in_map}
+use Rattle.rc_agreement.proofs.Cases.{on_cond, on_maybe}
+use Rattle.rc_agreement.proofs.Tables.{in_put, in_either, in_map}
 use Rattle.rc_agreement.proofs.Sends.{EachTo, to_none, to_one, to_both}
 use Rattle.rc_agreement.proofs.ShardNotes.{settled_finished}
 use Rattle.rc_serial_order.proofs.KeyFacts.{in_filtered}
-use Rattle.rc_serial_order.proofs.Locking.{settled_is}
 use Rattle.rc_quiet.proofs.ShardFitRows.{in_added_mark, in_added_all, in_cleared, Fewer, fewer_all, in_unfinished, settled_parts_in}
 use Rattle.rc_quiet.proofs.CoordBlankRows.{Blank, CauseBlank}
 

@@ -1,37 +1,33 @@
 -- What a shard server says and holds of t fits, by each of its rows.
-use Rattle.std.proofs.Common.{◌≡◌, ℕ, List, [], ◌∷◌, ◌++◌, refl, sym, ap, ◌∙◌, subst, Bool, true, false, cond, Option, Some, None, ◌⊎◌, inl, inr, ⊎_elim}
-use Rattle.std.specs.Prelude.{filter, map, not, ◌&&◌, is_some, is_none, ◌==◌, length, ◌+◌}
+use Rattle.std.proofs.Common.{◌≡◌, ℕ, List, [], ◌∷◌, ◌++◌, refl, sym, ap, ◌∙◌, subst, true, Some, None, ◌⊎◌, inl, inr, ⊎_elim}
+use Rattle.std.specs.Prelude.{filter, not, ◌&&◌, is_some, is_none, ◌==◌, length, ◌+◌}
 use Rattle.std.specs.declared.cmp.Ordering.{Ordering}
 use Rattle.std.specs.declared.cmp.Ordering.TheVariants.{Less, Equal, Greater}
 use Rattle.std.specs.Ordering.{nat_cmp, match_ordering}
-use Rattle.rc_ids.specs.Tables.{In, Table, found, put, without, member, added}
+use Rattle.rc_ids.specs.Tables.{In, Table, found, member, added}
 use Rattle.rc_ids.specs.Cluster.{Layout, is_dc, shard_of}
 use Rattle.rc_ids.specs.declared.names.Outcome.{Outcome}
 use Rattle.rc_ids.specs.declared.names.Outcome.TheVariants.{Commit as Committed}
 use Rattle.rc_ids.specs.declared.names.Party.{Party}
-use Rattle.rc_body.specs.Bodies.{part}
 use Rattle.rc_body.specs.Decisions.{outcome_of}
 use Rattle.rc_body.specs.declared.entry.Entry.{Entry}
 use Rattle.rc_body.specs.declared.decision.Decision.{Decision}
 use Rattle.rc_body.specs.declared.decision.Decision.TheVariants.{Commit, Abort}
-use Rattle.rc_body.specs.declared.reason.Reason.{Reason}
 use Rattle.rc_msg.specs.declared.msg.Envelope.{Envelope}
 use Rattle.rc_msg.specs.declared.msg.Msg.{Msg}
-use Rattle.rc_msg.specs.declared.msg.Msg.TheVariants.{ReadAsk, ReadCancel, Granted, Prepare, Prepared, Finish, CatchAsk, CatchPage}
-use Rattle.rc_record.specs.ShardState.{ShardDurable, version_at, value_at, settled, settled_new, settled_all, shard_applied}
-use Rattle.rc_record.specs.declared.record.Record.{Record}
-use Rattle.rc_record.specs.declared.record.Record.TheVariants.{Prepared as PartPrepared, Finished}
+use Rattle.rc_msg.specs.declared.msg.Msg.TheVariants.{ReadAsk, ReadCancel, Prepare, Prepared, Finish, CatchAsk, CatchPage}
+use Rattle.rc_record.specs.ShardState.{ShardDurable, settled, settled_new, settled_all, shard_applied}
 use Rattle.rc_protocol.specs.Messages.{coordinator, shard_server, client_of}
-use Rattle.rc_protocol.specs.Shard.{Mark, mark_cmp, ShardVolatile, ShardAct, shard_stays, shard_says, test, cleared, grant_of, is_free, added_all, granted, grants, locks_plain, waits, ignores_ask, on_read_ask, is_other, on_read_cancel, is_taken, preempted, answers, on_prepare, finishes_page, on_finish, forgotten, forgotten_all, cut_to_part, concerns, unfinished, is_next_shard_page, with_shard_cursor, asks_next_shard_page, then_says, takes_page, on_catch_page, shard_row}
+use Rattle.rc_protocol.specs.Shard.{Mark, mark_cmp, ShardVolatile, ShardAct, shard_stays, shard_says, test, cleared, grant_of, is_free, added_all, granted, grants, locks_plain, waits, ignores_ask, on_read_ask, is_other, on_read_cancel, is_taken, preempted, on_prepare, finishes_page, on_finish, forgotten, forgotten_all, cut_to_part, concerns, unfinished, is_next_shard_page, with_shard_cursor, asks_next_shard_page, then_says, takes_page, on_catch_page, shard_row}
 use Rattle.rc_protocol.specs.Acts.{NodeCause, Came as Comes, Takes, Catches, shard_act}
 use Rattle.rc_protocol.specs.Nodes.{ShardNode, applied}
 use Rattle.rc_agreement.proofs.Cases.{on_cond, on_maybe}
-use Rattle.rc_agreement.proofs.Tables.{found_in, in_put, in_without, in_either, in_map}
+use Rattle.rc_agreement.proofs.Tables.{in_put, in_without, in_either, in_map}
 use Rattle.rc_agreement.proofs.Sends.{EachTo, to_none, to_one, to_both}
 use Rattle.rc_agreement.proofs.ShardNotes.{settled_finished}
 use Rattle.rc_serial_order.proofs.KeyFacts.{in_filtered}
 use Rattle.rc_serial_order.proofs.Locking.{settled_is}
-use Rattle.rc_quiet.proofs.Parts.{Sent, Asked, Own, Told, Preparing, Answering, Fits, ShardFits}
+use Rattle.rc_quiet.proofs.Parts.{Sent, Asked, Own, Told, Answering, Fits, ShardFits}
 
 -- SETS OF MARKS
 pub in_added_mark : (m k : Mark) (ms : List Mark) → In m (added mark_cmp ms k) → (m ≡ k) ⊎ In m ms

@@ -1,12 +1,11 @@
 -- The nodes of the layout are there, in every life.
-use Rattle.std.proofs.Common.{◌≡◌, ℕ, zero, suc, ◌+◌, ◌-◌, ◌*◌, ◌<◌, ◌≤◌, List, [], ◌∷◌, refl, sym, ap, ◌∙◌, subst, true, Some, arith, length}
-use Rattle.std.specs.Prelude.{slice_get, slice_set, ◌&&◌}
+use Rattle.std.proofs.Common.{◌≡◌, ℕ, zero, suc, ◌+◌, ◌-◌, ◌*◌, ◌<◌, ◌≤◌, List, [], ◌∷◌, refl, sym, ap, ◌∙◌, true, Some, arith, length}
+use Rattle.std.specs.Prelude.{slice_get}
 use Rattle.std.proofs.lemmas.List.{length-replicate, length-map}
 use Rattle.std.proofs.Math.Nat.{mul-le-mul_right}
 use Rattle.rc_ids.specs.Cluster.{Layout, is_dc, is_shard}
-use Rattle.rc_protocol.specs.Nodes.{CoordNode, ShardNode, shard_index, coord_started, shard_started, shard_after, shard_stopped}
-use Rattle.rc_runs.specs.World.{World, Parties, shard_at, new_world}
-use Rattle.rc_agreement.proofs.Cases.{never}
+use Rattle.rc_protocol.specs.Nodes.{ShardNode, shard_index, shard_started, shard_after, shard_stopped}
+use Rattle.rc_runs.specs.World.{World, shard_at, new_world}
 use Rattle.rc_agreement.proofs.Places.{dc_range}
 use Rattle.rc_agreement.proofs.PlainLives.{IsPlainLife, First, Next, reopened}
 use Rattle.rc_agreement.proofs.Scenes.{Scene, scene, shard_in, shard_act_of, Keeps, run_keeps}

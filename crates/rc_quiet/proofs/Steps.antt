@@ -1,8 +1,8 @@
 -- What holds of t at each moment of a quiet stretch, and how an event keeps it.
-use Rattle.std.proofs.Common.{◌≡◌, ℕ, ◌≤◌, List, [], ◌∷◌, ◌++◌, refl, sym, ap, ◌∙◌, subst, Bool, true, false, Option, Some, None, ◌⊎◌, inl, inr, ⊎_elim}
+use Rattle.std.proofs.Common.{◌≡◌, ℕ, ◌≤◌, List, ◌++◌, refl, sym, ◌∙◌, subst, Option, Some, None, ◌⊎◌, inr, ⊎_elim}
 use Rattle.std.specs.Ordering.{nat_cmp}
-use Rattle.rc_ids.specs.Tables.{In, Table, found}
-use Rattle.rc_ids.specs.Cluster.{Layout, IsLayout, shard_of}
+use Rattle.rc_ids.specs.Tables.{In, found}
+use Rattle.rc_ids.specs.Cluster.{IsLayout, shard_of}
 use Rattle.rc_ids.specs.declared.names.Outcome.TheVariants.{Commit as Committed}
 use Rattle.rc_ids.specs.declared.names.Party.{Party}
 use Rattle.rc_body.specs.declared.entry.Entry.{Entry}
@@ -11,7 +11,7 @@ use Rattle.rc_msg.specs.declared.msg.Envelope.{Envelope}
 use Rattle.rc_msg.specs.declared.msg.Msg.{Msg}
 use Rattle.rc_msg.specs.declared.msg.Msg.TheVariants.{ReadAsk, Granted, Prepare, Voted}
 use Rattle.rc_record.specs.ShardState.{version_at}
-use Rattle.rc_protocol.specs.Messages.{Posts, coordinator, shard_server, client_of}
+use Rattle.rc_protocol.specs.Messages.{Posts, shard_server, client_of}
 use Rattle.rc_protocol.specs.Client.{Client, Slot, Complete, slot_of}
 use Rattle.rc_protocol.specs.Nodes.{CoordNode, ShardNode}
 use Rattle.rc_runs.specs.declared.event.Event.{Event}
@@ -23,7 +23,7 @@ use Rattle.rc_agreement.proofs.Cases.{never, some_is}
 use Rattle.rc_agreement.proofs.Tables.{RisesFrom}
 use Rattle.rc_causes.proofs.ReadSlots.{Has}
 use Rattle.rc_causes.proofs.ReadGrants.{Counts}
-use Rattle.rc_quiet.proofs.Parts.{Sent, Came, IsDone, CountsVote, Goes, Answers, SaysYes}
+use Rattle.rc_quiet.proofs.Parts.{Came, IsDone, CountsVote, Goes, Answers, SaysYes}
 use Rattle.rc_quiet.proofs.Ending.{in_message}
 use Rattle.rc_quiet.proofs.Kept.{Kept}
 use Rattle.rc_quiet.proofs.Turns.{Calm}

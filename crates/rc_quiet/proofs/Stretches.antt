@@ -1,5 +1,5 @@
 -- An induction over a stretch: each event has its premises at both of its ends. And what lies before and behind a moment.
-use Rattle.std.proofs.Common.{◌≡◌, List, [], ◌∷◌, ◌++◌, refl, sym, ap, subst, Bool, true, false, cond, inl, inr, ⊎_elim}
+use Rattle.std.proofs.Common.{◌≡◌, List, [], ◌∷◌, refl, sym, ap, subst, Bool, true, false, cond, inl, inr, ⊎_elim}
 use Rattle.rc_ids.specs.Tables.{In}
 use Rattle.rc_runs.specs.World.{World, step}
 use Rattle.rc_report.specs.declared.line.Line.{Line}

@@ -1,38 +1,31 @@
 -- Each event of a quiet stretch keeps what fits of t.
-use Rattle.std.proofs.Common.{◌≡◌, ℕ, List, [], ◌++◌, refl, sym, ap, ◌∙◌, subst, Bool, true, false, Option, Some, None, ◌⊎◌, inl, inr, ⊎_elim, true≢false}
+use Rattle.std.proofs.Common.{◌≡◌, ℕ, List, [], ◌++◌, refl, sym, ap, ◌∙◌, subst, Bool, true, false, Option, Some, None, ⊎_elim}
 use Rattle.std.specs.Ordering.{nat_cmp}
-use Rattle.rc_ids.specs.Tables.{In, found, maybe}
+use Rattle.rc_ids.specs.Tables.{In, found}
 use Rattle.rc_ids.specs.Cluster.{is_dc, is_shard}
-use Rattle.rc_ids.specs.declared.names.NodeId.TheVariants.{Coord, Shard as ShardServer}
 use Rattle.rc_ids.specs.declared.names.Party.{Party}
-use Rattle.rc_body.specs.declared.decision.Decision.{Decision}
-use Rattle.rc_body.specs.declared.decision.Decision.TheVariants.{Commit}
 use Rattle.rc_msg.specs.declared.msg.Envelope.{Envelope}
 use Rattle.rc_msg.specs.declared.msg.Msg.{Msg}
-use Rattle.rc_msg.specs.declared.msg.Msg.TheVariants.{ReadAsk, ReadCancel, Propose, Prepare, Voted, Decided, Abandon, CatchAsk}
 use Rattle.rc_record.specs.declared.record.Record.{Record}
-use Rattle.rc_record.specs.declared.record.Record.TheVariants.{Prepared as PartPrepared, Promised, Accepted}
-use Rattle.rc_record.specs.CoordState.{CoordDurable, promise_of, coord_applied}
 use Rattle.rc_record.specs.ShardState.{ShardDurable, shard_applied}
-use Rattle.rc_protocol.specs.Messages.{Posts, coordinator, shard_server, client_of}
+use Rattle.rc_protocol.specs.Messages.{Posts, coordinator, shard_server}
 use Rattle.rc_protocol.specs.Coordinator.{CoordAct, do_catch as coord_catches, new_volatile as new_coord_volatile}
 use Rattle.rc_protocol.specs.Shard.{ShardAct, do_catch as shard_catches, new_volatile as new_shard_volatile}
 use Rattle.rc_protocol.specs.Acts.{NodeCause, Came as Comes, Catches, Takes, coord_act, shard_act}
-use Rattle.rc_protocol.specs.Nodes.{CoordNode, ShardNode, applied, coord_started, shard_started, coord_after, shard_after, coord_stopped, shard_stopped, coord_replayed, shard_replayed}
+use Rattle.rc_protocol.specs.Nodes.{CoordNode, ShardNode, applied, coord_started, shard_started, coord_after, shard_after, coord_stopped, shard_stopped}
 use Rattle.rc_runs.specs.declared.event.Event.{Event}
-use Rattle.rc_runs.specs.declared.event.Event.TheVariants.{Restart}
-use Rattle.rc_runs.specs.World.{Parties, Deed, ByCoord, ByShard, CoordStops, ShardStops, kept_record, coord_at, shard_at, message, envelopes, with_coord, with_shard, after_begin, parties_after, actor, sends_of}
+use Rattle.rc_runs.specs.World.{Parties, kept_record, coord_at, shard_at, envelopes, with_coord, with_shard}
 use Rattle.rc_agreement.proofs.Cases.{never, and_left}
-use Rattle.rc_agreement.proofs.Places.{coord_dc, coord_set, shard_set, shard_there}
-use Rattle.rc_agreement.proofs.Sends.{EachTo, to_none}
+use Rattle.rc_agreement.proofs.Places.{coord_dc, shard_there}
+use Rattle.rc_agreement.proofs.Sends.{to_none}
 use Rattle.rc_agreement.proofs.Promises.{replayed}
-use Rattle.rc_causes.proofs.Moves.{Delivers, CoordWhy, ShardWhy, coord_joins, shard_joins, coord_actor, shard_actor}
+use Rattle.rc_causes.proofs.Moves.{Delivers, CoordWhy, ShardWhy}
 use Rattle.rc_quiet.proofs.Parts.{Sent, Fits, CoordFits, ShardFits}
 use Rattle.rc_quiet.proofs.Ending.{in_message}
 use Rattle.rc_quiet.proofs.Growing.{posted_in, more_in, fits_on, coord_on, shard_on}
 use Rattle.rc_quiet.proofs.CoordFitRows.{Lists, CoordDoes, coord_fits, Due}
 use Rattle.rc_quiet.proofs.ShardFitRows.{shard_says_fit, shard_holds, DueTo}
-use Rattle.rc_quiet.proofs.MemberShards.{NotNo, Passes, Taken, never_no, lost_by_other}
+use Rattle.rc_quiet.proofs.MemberShards.{Passes, Taken, never_no, lost_by_other}
 use Rattle.rc_quiet.proofs.NodesAfter.{fits_after, low_after}
 use Rattle.rc_quiet.proofs.Kept.{Kept, coord_changes, shard_changes}
 

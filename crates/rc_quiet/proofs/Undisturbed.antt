@@ -1,41 +1,36 @@
 -- At a member's shard t's prepare passes the test, and nobody takes a lock of t away.
-use Rattle.std.proofs.Common.{◌≡◌, ℕ, ◌≤◌, List, [], ◌∷◌, refl, sym, ap, ◌∙◌, subst, Bool, true, false, cond, Option, Some, None, ◌⊎◌, inl, inr, ⊎_elim, true≢false}
-use Rattle.std.specs.Prelude.{map, ◌&&◌, ◌||◌, ◌==◌, is_some}
-use Rattle.std.specs.List.{list_any}
+use Rattle.std.proofs.Common.{◌≡◌, ℕ, ◌≤◌, List, [], ◌∷◌, refl, sym, ◌∙◌, subst, Bool, true, false, Option, Some, None, inl, inr, ⊎_elim, true≢false}
+use Rattle.std.specs.Prelude.{◌||◌, ◌==◌}
 use Rattle.std.specs.declared.cmp.Ordering.{Ordering}
 use Rattle.std.specs.declared.cmp.Ordering.TheVariants.{Less, Equal, Greater}
 use Rattle.std.specs.Ordering.{nat_cmp, is_eq, ordering_then}
 use Rattle.std.specs.FinMap.{nat_cmp-IsAntisymmetric, slice_cmp-IsAntisymmetric}
-use Rattle.rc_ids.specs.Tables.{In, Table, found, put, member}
+use Rattle.rc_ids.specs.Tables.{In, found, member}
 use Rattle.rc_ids.specs.Texts.{key_cmp}
-use Rattle.rc_ids.specs.Cluster.{Layout, shard_of}
+use Rattle.rc_ids.specs.Cluster.{shard_of}
 use Rattle.rc_ids.specs.declared.names.Party.{Party}
-use Rattle.rc_body.specs.Bodies.{part, has_key, writes}
 use Rattle.rc_body.specs.declared.entry.Entry.{Entry}
 use Rattle.rc_body.specs.declared.decision.Decision.{Decision}
 use Rattle.rc_body.specs.declared.decision.Decision.TheVariants.{Commit}
 use Rattle.rc_msg.specs.declared.msg.Envelope.{Envelope}
 use Rattle.rc_msg.specs.declared.msg.Msg.TheVariants.{ReadAsk, Propose, Prepare}
-use Rattle.rc_record.specs.ShardState.{ShardDurable, version_at, shard_applied}
+use Rattle.rc_record.specs.ShardState.{version_at, shard_applied}
 use Rattle.rc_record.specs.declared.record.Record.{Record}
-use Rattle.rc_record.specs.declared.record.Record.TheVariants.{Prepared as PartPrepared}
 use Rattle.rc_protocol.specs.Messages.{shard_server}
-use Rattle.rc_protocol.specs.Shard.{Mark, mark_cmp, ShardVolatile, ShardAct, test, shard_row}
+use Rattle.rc_protocol.specs.Shard.{Mark, mark_cmp, test}
 use Rattle.rc_protocol.specs.Client.{Client, Slot, KeyRead, NotRead, UnderWay, Complete, entry_of, body_of, version_read}
 use Rattle.rc_protocol.specs.Acts.{NodeCause, Came as Comes, Catches, Takes, shard_act}
 use Rattle.rc_protocol.specs.Nodes.{ShardNode, applied, shard_after}
 use Rattle.rc_runs.specs.declared.event.Event.{Event}
-use Rattle.rc_runs.specs.World.{Parties, shard_at, with_shard}
+use Rattle.rc_runs.specs.World.{Parties, shard_at}
 use Rattle.rc_claims.specs.Quiet.{HasNone}
 use Rattle.rc_agreement.proofs.Cases.{never, nat_dec}
 use Rattle.rc_agreement.proofs.Tables.{RisesFrom, in_map, put_same, to_equal}
-use Rattle.rc_agreement.proofs.Places.{shard_set}
 use Rattle.rc_agreement.proofs.Ballots.{Late, commit_is}
 use Rattle.rc_agreement.proofs.ClientSlots.{slot_in}
 use Rattle.rc_serial_order.proofs.KeyFacts.{in_filtered}
-use Rattle.rc_causes.proofs.ReadSlots.{Has}
 use Rattle.rc_causes.proofs.Moves.{ShardWhy}
-use Rattle.rc_quiet.proofs.Parts.{Sent, IsBegun, IsDone, Fits}
+use Rattle.rc_quiet.proofs.Parts.{Sent, IsDone}
 use Rattle.rc_quiet.proofs.Ending.{in_message}
 use Rattle.rc_quiet.proofs.MemberShards.{in_found, writes_has, Unheld, passes, Passes, Taken}
 use Rattle.rc_quiet.proofs.Kept.{Kept}

@@ -1,32 +1,27 @@
 -- Who has not begun, and is not named by the logs of the start, is named nowhere.
-use Rattle.std.proofs.Common.{◌≡◌, ℕ, List, [], ◌∷◌, ◌++◌, refl, sym, ap, ◌∙◌, subst, Bool, true, false, cond, Option, Some, None, ◌⊎◌, inl, inr, ⊎_elim, true≢false}
-use Rattle.std.specs.Prelude.{◌||◌, is_some}
+use Rattle.std.proofs.Common.{◌≡◌, ℕ, List, [], ◌++◌, refl, sym, ap, ◌∙◌, subst, Bool, true, false, Option, Some, None, inl, inr, ⊎_elim}
 use Rattle.std.specs.Ordering.{nat_cmp}
-use Rattle.std.proofs.lemmas.List.{append-nil}
-use Rattle.rc_ids.specs.Tables.{In, Table, found, put, member, maybe}
-use Rattle.rc_ids.specs.declared.names.NodeId.TheVariants.{Coord, Shard as ShardServer}
+use Rattle.rc_ids.specs.Tables.{In, Table, found}
 use Rattle.rc_ids.specs.declared.names.Party.{Party}
 use Rattle.rc_msg.specs.declared.msg.Envelope.{Envelope}
 use Rattle.rc_msg.specs.declared.msg.Msg.{Msg}
 use Rattle.rc_msg.specs.declared.msg.Msg.TheVariants.{ReadAsk, ReadCancel, Propose, Abandon}
 use Rattle.rc_record.specs.declared.record.Record.{Record}
 use Rattle.rc_record.specs.CoordState.{CoordDurable, promise_of, coord_applied}
-use Rattle.rc_record.specs.ShardState.{ShardDurable, shard_applied}
-use Rattle.rc_report.specs.declared.fault.Wrong.{Wrong}
-use Rattle.rc_report.specs.declared.fault.Wrong.TheVariants.{NotBegun}
-use Rattle.rc_protocol.specs.Messages.{Posts, coordinator, shard_server, client_of, or_else}
-use Rattle.rc_protocol.specs.Client.{Client, ClientAct, Slot, new_client, slot_of}
+use Rattle.rc_record.specs.ShardState.{shard_applied}
+use Rattle.rc_protocol.specs.Messages.{Posts}
+use Rattle.rc_protocol.specs.Client.{Client, ClientAct, Slot, slot_of}
 use Rattle.rc_protocol.specs.Coordinator.{CoordAct, do_catch as coord_catches, new_volatile as new_coord_volatile}
 use Rattle.rc_protocol.specs.Shard.{do_catch as shard_catches, new_volatile as new_shard_volatile}
-use Rattle.rc_protocol.specs.Acts.{NodeCause, Came as Comes, Catches, Takes, coord_act, shard_act, ClientCause, client_act, client_by_row, refusal}
+use Rattle.rc_protocol.specs.Acts.{NodeCause, Came as Comes, Catches, Takes, coord_act, shard_act, ClientCause, client_act, refusal}
 use Rattle.rc_protocol.specs.Nodes.{CoordNode, ShardNode, applied, coord_started, shard_started, coord_after, shard_after, coord_stopped, shard_stopped}
 use Rattle.rc_runs.specs.declared.event.Event.{Event}
 use Rattle.rc_runs.specs.declared.event.Event.TheVariants.{Take}
-use Rattle.rc_runs.specs.World.{Parties, Deed, kept_record, coord_at, shard_at, message, envelopes, replaced, with_client, with_coord, with_shard, with_new_client}
-use Rattle.rc_agreement.proofs.Cases.{on_maybe, never, some_is, nat_dec}
+use Rattle.rc_runs.specs.World.{Parties, kept_record, coord_at, shard_at, envelopes, with_coord, with_shard}
+use Rattle.rc_agreement.proofs.Cases.{on_maybe, some_is, nat_dec}
 use Rattle.rc_agreement.proofs.Places.{coord_set, coord_set_other, shard_set, shard_set_other}
 use Rattle.rc_agreement.proofs.Sends.{EachTo, to_none, in_sent}
-use Rattle.rc_causes.proofs.Moves.{Delivers, CoordWhy, ShardWhy}
+use Rattle.rc_causes.proofs.Moves.{CoordWhy, ShardWhy}
 use Rattle.rc_quiet.proofs.Ending.{in_message}
 use Rattle.rc_quiet.proofs.CoordBlankRows.{Blank, CoordBlank, CoordBlankVolatile, CauseBlank, coord_says_nothing, coord_stays_blank}
 use Rattle.rc_quiet.proofs.ShardBlankRows.{MarksBlank, DurableBlank, ShardBlank, shard_says_nothing, shard_durable_blank, shard_marks_blank}

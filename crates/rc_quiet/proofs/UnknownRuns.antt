@@ -1,27 +1,24 @@
 -- In every run: who has not begun, and is not named by the logs of the start, is named nowhere; and each number delivered is of a message.
-use Rattle.std.proofs.Common.{◌≡◌, ℕ, List, [], ◌∷◌, ◌++◌, refl, sym, ap, ◌∙◌, subst, Bool, true, false, cond, Option, Some, None, ◌⊎◌, inl, inr, ⊎_elim, true≢false}
-use Rattle.std.specs.Prelude.{◌||◌, is_some}
+use Rattle.std.proofs.Common.{◌≡◌, ℕ, List, [], ◌++◌, refl, sym, ap, ◌∙◌, subst, true, false, cond, Option, Some, None, ⊎_elim, true≢false}
 use Rattle.std.specs.Ordering.{nat_cmp}
 use Rattle.std.proofs.lemmas.List.{append-nil}
-use Rattle.rc_ids.specs.Tables.{In, Table, found, put, member, maybe}
-use Rattle.rc_ids.specs.declared.names.NodeId.TheVariants.{Coord, Shard as ShardServer}
-use Rattle.rc_ids.specs.declared.names.Party.{Party}
+use Rattle.rc_ids.specs.Tables.{In, found, put, member}
+use Rattle.rc_ids.specs.declared.names.NodeId.TheVariants.{Coord}
 use Rattle.rc_ids.specs.Cluster.{Layout}
 use Rattle.rc_msg.specs.declared.msg.Envelope.{Envelope}
 use Rattle.rc_report.specs.declared.fault.Wrong.{Wrong}
 use Rattle.rc_report.specs.declared.fault.Wrong.TheVariants.{NotBegun}
-use Rattle.rc_protocol.specs.Messages.{Posts, coordinator, client_of, or_else}
-use Rattle.rc_protocol.specs.Client.{Client, Slot, new_client, slot_of}
+use Rattle.rc_protocol.specs.Messages.{client_of, or_else}
+use Rattle.rc_protocol.specs.Client.{Client, new_client}
 use Rattle.rc_protocol.specs.Coordinator.{do_catch as coord_catches, new_volatile as new_coord_volatile}
 use Rattle.rc_protocol.specs.Shard.{do_catch as shard_catches, new_volatile as new_shard_volatile}
 use Rattle.rc_protocol.specs.Acts.{client_act, coord_act, shard_act}
-use Rattle.rc_protocol.specs.Nodes.{CoordNode, ShardNode, coord_started, shard_started}
+use Rattle.rc_protocol.specs.Nodes.{coord_started, shard_started}
 use Rattle.rc_runs.specs.declared.event.Event.{Event}
-use Rattle.rc_runs.specs.declared.event.Event.TheVariants.{Begin, Read, Write, Commit, Cancel, Retry, Vanish, Take, Catch, Deliver, Lose, Crash, CrashAt, Restart}
-use Rattle.rc_runs.specs.World.{World, Parties, Deed, Idle, ByClient, ByCoord, ByShard, CoordStops, ShardStops, kept_record, Start, Course, coord_at, shard_at, envelopes, replaced, with_client, with_new_client, after_begin, parties_after, sends_of, actor, deed, along, course_deed, step}
-use Rattle.rc_runs.specs.Refusals.{Happening, wrong, wants_up, is_begun, is_event, after_event, run}
-use Rattle.rc_agreement.proofs.Cases.{on_cond, never, nat_dec}
-use Rattle.rc_agreement.proofs.Tables.{put_cases, set_cases}
+use Rattle.rc_runs.specs.declared.event.Event.TheVariants.{Begin, Take}
+use Rattle.rc_runs.specs.World.{World, Parties, Deed, Idle, ByClient, ByCoord, ByShard, CoordStops, ShardStops, kept_record, Start, Course, envelopes, replaced, after_begin, parties_after, sends_of, actor, course_deed, step}
+use Rattle.rc_runs.specs.Refusals.{Happening, wrong, wants_up, is_begun, is_event, run}
+use Rattle.rc_agreement.proofs.Cases.{on_cond, never}
 use Rattle.rc_agreement.proofs.Sends.{to_none}
 use Rattle.rc_causes.proofs.Moves.{Move, Rests, ClientActs, CoordActs, CoordWakes, CoordHalts, CoordCrashes, ShardActs, ShardWakes, ShardHalts, ShardCrashes, move_of, coord_joins, shard_joins, client_joins}
 use Rattle.rc_claims.specs.Quiet.{moments}
