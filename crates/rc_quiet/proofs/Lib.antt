@@ -44,3 +44,4 @@ pub mod Closing
 pub mod QuietLaw
 pub mod RowsWritten
 pub mod Sizes
+pub mod EndNodes
