@@ -45,3 +45,4 @@ pub mod QuietLaw
 pub mod RowsWritten
 pub mod Sizes
 pub mod EndNodes
+pub mod FirstFacts
