@@ -17,13 +17,13 @@ use Rattle.rc_quiet.proofs.FactsRuns.{Basics, facts_of, basics_at}
 new_some : {A : Type 0} (n i : ℕ) (y x : A) → slice_get (replicate n y) i ≡ Some x → x ≡ y
 new_some n i y x is = ⊎_elim (λ (e : slice_get (replicate n y) i ≡ Some y). some_is x y (sym is ∙ e)) (λ (e : slice_get (replicate n y) i ≡ None). never x (sym e ∙ is)) (new_get n i y)
 
-new_coord : (c : Layout) (d : ℕ) (x : CoordNode) → coord_at (new_world c).parties d ≡ Some x → x ≡ coord_started []
+pub new_coord : (c : Layout) (d : ℕ) (x : CoordNode) → coord_at (new_world c).parties d ≡ Some x → x ≡ coord_started []
 new_coord c d x =
     on_cond (λ o. o ≡ Some x → x ≡ coord_started []) (is_dc c d) (slice_get (replicate c.dcs (coord_started [])) (coord_index d)) None
     (λ _ is. new_some c.dcs (coord_index d) (coord_started []) x is)
     (λ _ is. never x is)
 
-new_shard : (c : Layout) (d sh : ℕ) (x : ShardNode) → shard_at (new_world c).parties d sh ≡ Some x → x ≡ shard_started []
+pub new_shard : (c : Layout) (d sh : ℕ) (x : ShardNode) → shard_at (new_world c).parties d sh ≡ Some x → x ≡ shard_started []
 new_shard c d sh x =
     on_cond (λ o. o ≡ Some x → x ≡ shard_started []) (is_dc c d && is_shard c sh) (slice_get (replicate (c.dcs * c.shards) (shard_started [])) (shard_index c d sh)) None
     (λ _ is. new_some (c.dcs * c.shards) (shard_index c d sh) (shard_started []) x is)

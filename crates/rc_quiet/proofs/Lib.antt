@@ -46,3 +46,4 @@ pub mod RowsWritten
 pub mod Sizes
 pub mod EndNodes
 pub mod FirstFacts
+pub mod FirstUnknown
