@@ -1,0 +1,21 @@
+//! Composition: the history of a wire as the events of a run, and what each party does in it by its own entries alone. The laws are the
+//! contract of a function that does nothing.
+#![tactic(auto)]
+
+ghost use Rattle.std.specs.Prelude.{List};
+ghost use Rattle.rc_ids.specs.Cluster.{Layout};
+ghost use Rattle.rc_ids.specs.declared.names.Party.{Party};
+ghost use Rattle.rc_net.specs.Network.{Message};
+ghost use Rattle.rc_wire.specs.declared.turn.Turn.{Turn};
+ghost use Rattle.rc_composition.specs.Composed.{Operations};
+ghost use Rattle.rc_composition.specs.Cuts.{EventsAreCut, PartsAreCut};
+
+mod command;
+
+pub use command::Command;
+
+/// Wherever a history is cut, its events are those before the cut and then those behind it, and so are the steps of each party.
+pub fn cuts_compose()
+    ensures events { (ops : Operations) (parties : List Party) (front later : List Turn) → EventsAreCut ops parties front later }
+    ensures parts { (c : Layout) (ops : Operations) (sent : List Message) (p : Party) (mine more later : List Turn) → PartsAreCut c ops sent p mine more later }
+{}
