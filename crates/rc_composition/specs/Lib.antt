@@ -3,3 +3,4 @@ pub mod Composed
 pub mod Parts
 pub mod Steps
 pub mod Cuts
+pub mod Deeds

@@ -6,9 +6,12 @@ ghost use Rattle.std.specs.Prelude.{List};
 ghost use Rattle.rc_ids.specs.Cluster.{Layout};
 ghost use Rattle.rc_ids.specs.declared.names.Party.{Party};
 ghost use Rattle.rc_net.specs.Network.{Message};
+ghost use Rattle.rc_msg.specs.declared.msg.Envelope.{Envelope};
+ghost use Rattle.rc_runs.specs.World.{Parties};
 ghost use Rattle.rc_wire.specs.declared.turn.Turn.{Turn};
 ghost use Rattle.rc_composition.specs.Composed.{Operations};
 ghost use Rattle.rc_composition.specs.Cuts.{EventsAreCut, PartsAreCut};
+ghost use Rattle.rc_composition.specs.Deeds.{DeedsAreOwn};
 
 mod command;
 
@@ -18,4 +21,9 @@ pub use command::Command;
 pub fn cuts_compose()
     ensures events { (ops : Operations) (parties : List Party) (front later : List Turn) → EventsAreCut ops parties front later }
     ensures parts { (c : Layout) (ops : Operations) (sent : List Message) (p : Party) (mine more later : List Turn) → PartsAreCut c ops sent p mine more later }
+{}
+
+/// What a party does by itself is what it does in a world.
+pub fn deeds_are_own()
+    ensures { (w : Parties) (sent : List Envelope) (on_wire : List Message) → DeedsAreOwn w sent on_wire }
 {}
