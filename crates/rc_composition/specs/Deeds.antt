@@ -1,7 +1,6 @@
 -- What a party does by itself is what it does in a world.
 use Rattle.std.specs.Prelude.{◌≡◌, ℕ, List, Some}
 use Rattle.rc_ids.specs.declared.names.NodeId.{NodeId}
-use Rattle.rc_ids.specs.declared.names.Party.{Party}
 use Rattle.rc_ids.specs.declared.names.Party.TheVariants.{Node, Client}
 use Rattle.rc_net.specs.Network.{Message}
 use Rattle.rc_msg.specs.declared.msg.Envelope.{Envelope}

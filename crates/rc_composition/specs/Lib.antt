@@ -4,3 +4,4 @@ pub mod Parts
 pub mod Steps
 pub mod Cuts
 pub mod Deeds
+pub mod Moves

@@ -8,10 +8,12 @@ ghost use Rattle.rc_ids.specs.declared.names.Party.{Party};
 ghost use Rattle.rc_net.specs.Network.{Message};
 ghost use Rattle.rc_msg.specs.declared.msg.Envelope.{Envelope};
 ghost use Rattle.rc_runs.specs.World.{Parties};
+ghost use Rattle.rc_runs.specs.Refusals.{Happening};
 ghost use Rattle.rc_wire.specs.declared.turn.Turn.{Turn};
 ghost use Rattle.rc_composition.specs.Composed.{Operations};
 ghost use Rattle.rc_composition.specs.Cuts.{EventsAreCut, PartsAreCut};
 ghost use Rattle.rc_composition.specs.Deeds.{DeedsAreOwn};
+ghost use Rattle.rc_composition.specs.Moves.{MovesAlone};
 
 mod command;
 
@@ -26,4 +28,9 @@ pub fn cuts_compose()
 /// What a party does by itself is what it does in a world.
 pub fn deeds_are_own()
     ensures { (w : Parties) (sent : List Envelope) (on_wire : List Message) → DeedsAreOwn w sent on_wire }
+{}
+
+/// A party's deed makes of it what it makes of the party by itself, and leaves the others as they were.
+pub fn moves_are_own()
+    ensures { (w : Parties) (c : Layout) (on_wire : List Message) (p : Party) (h : Happening) → MovesAlone w c on_wire p h }
 {}
