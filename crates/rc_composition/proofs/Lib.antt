@@ -5,3 +5,4 @@ pub mod Moving
 pub mod Cases
 pub mod Tables
 pub mod Places
+pub mod Sending

@@ -5,3 +5,4 @@ pub mod Steps
 pub mod Cuts
 pub mod Deeds
 pub mod Moves
+pub mod Messages

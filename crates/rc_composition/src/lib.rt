@@ -9,10 +9,13 @@ ghost use Rattle.rc_net.specs.Network.{Message};
 ghost use Rattle.rc_msg.specs.declared.msg.Envelope.{Envelope};
 ghost use Rattle.rc_runs.specs.World.{Parties};
 ghost use Rattle.rc_runs.specs.Refusals.{Happening};
+ghost use Rattle.rc_protocol.specs.Messages.{Posts};
+ghost use Rattle.rc_wire.specs.declared.rules.Rules.{Rules};
 ghost use Rattle.rc_wire.specs.declared.turn.Turn.{Turn};
 ghost use Rattle.rc_composition.specs.Composed.{Operations};
 ghost use Rattle.rc_composition.specs.Cuts.{EventsAreCut, PartsAreCut};
 ghost use Rattle.rc_composition.specs.Deeds.{DeedsAreOwn};
+ghost use Rattle.rc_composition.specs.Messages.{LettersAreMessages, NumbersStay};
 ghost use Rattle.rc_composition.specs.Moves.{MovesAlone};
 
 mod command;
@@ -33,4 +36,10 @@ pub fn deeds_are_own()
 /// A party's deed makes of it what it makes of the party by itself, and leaves the others as they were.
 pub fn moves_are_own()
     ensures { (w : Parties) (c : Layout) (on_wire : List Message) (p : Party) (h : Happening) → MovesAlone w c on_wire p h }
+{}
+
+/// What a party posts are the messages that it sends, and a number names the same message in every longer history.
+pub fn messages_stay()
+    ensures letters { (p : Party) (ms : Posts) → LettersAreMessages p ms }
+    ensures numbers { (rules : Rules) (front later : List Turn) → NumbersStay rules front later }
 {}
