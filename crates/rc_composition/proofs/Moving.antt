@@ -18,9 +18,9 @@ use Rattle.rc_runs.specs.declared.event.Event.{Event}
 use Rattle.rc_runs.specs.declared.event.Event.TheVariants.{Begin, Read, Write, Commit, Cancel, Retry, Vanish, Take, Catch, Deliver, Lose, Crash, CrashAt, Restart}
 use Rattle.rc_runs.specs.World.{Parties, coord_at, shard_at, Deed, Idle, ByClient, ByCoord, ByShard, CoordStops, ShardStops, parties_after, Course, Goes, Stops, along}
 use Rattle.rc_runs.specs.Refusals.{Happening}
-use Rattle.rc_composition.proofs.Cases.{on_cond, on_maybe}
-use Rattle.rc_composition.proofs.Tables.{set_cases}
-use Rattle.rc_composition.proofs.Places.{coord_set, coord_set_other, shard_set, shard_set_other}
+use Rattle.rc_agreement.proofs.Cases.{on_cond, on_maybe}
+use Rattle.rc_agreement.proofs.Tables.{set_cases}
+use Rattle.rc_agreement.proofs.Places.{coord_set, coord_set_other, shard_set, shard_set_other}
 use Rattle.rc_composition.specs.Parts.{OfCoord, OfShard, OfClient, NoPart, part_in, part_after, envelope_at, hears, starts_again, is_told, own_deed}
 use Rattle.rc_composition.specs.Moves.{MovesAlone}
 
