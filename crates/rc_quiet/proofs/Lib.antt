@@ -47,3 +47,4 @@ pub mod Sizes
 pub mod EndNodes
 pub mod FirstFacts
 pub mod FirstUnknown
+pub mod FirstParts
