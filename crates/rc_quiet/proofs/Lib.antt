@@ -48,3 +48,4 @@ pub mod EndNodes
 pub mod FirstFacts
 pub mod FirstUnknown
 pub mod FirstParts
+pub mod FirstReads
