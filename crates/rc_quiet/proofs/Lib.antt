@@ -49,3 +49,4 @@ pub mod FirstFacts
 pub mod FirstUnknown
 pub mod FirstParts
 pub mod FirstReads
+pub mod FirstLaw
