@@ -47,3 +47,6 @@ pub mod Sizes
 pub mod EndNodes
 pub mod FirstFacts
 pub mod FirstUnknown
+pub mod FirstParts
+pub mod FirstReads
+pub mod FirstLaw
