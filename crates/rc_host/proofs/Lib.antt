@@ -1,0 +1,6 @@
+-- Lemmas on hosts.
+pub mod Growing
+pub mod OpenFacts
+pub mod Acting
+pub mod Stopping
+pub mod Turning

@@ -1,0 +1,9 @@
+//! Hosts: a node and its disk, whether the node is up or down.
+#![tactic(auto)]
+
+mod host;
+mod node;
+mod shard;
+
+pub use host::{Course, Host, HostFault, MOST_LOG_BYTES, deliver};
+pub use node::Node;

@@ -1,0 +1,68 @@
+// What a node is to its host.
+ghost use Rattle.std.specs.Prelude.{◌≡◌, ◌≤◌, ℕ, List, false, OnOk, OnErr, IfOk, IfErr};
+ghost use Rattle.rc_ids.specs.declared.names.NodeId.{NodeId as NodeName};
+ghost use Rattle.rc_ids.specs.Cluster.{Layout};
+ghost use Rattle.rc_log.specs.Journals.{with_cut};
+ghost use Rattle.rc_msg.specs.Posts.{posted_all};
+ghost use Rattle.rc_protocol.specs.Acts.{Came, Catches, Takes};
+ghost use Rattle.rc_node.specs.Cores.{HasActed, HasRefused, moved, started};
+ghost use Rattle.rc_host.specs.AnyNode.{AnyNode, NodeDurable, new_volatile, act_of};
+
+use rc_ids::{Cluster, NoMemory, NodeId, Party, TxId};
+use rc_log::Journal;
+use rc_msg::{Msg, Outbox};
+use rc_node::NodeFault;
+use std::alloc::Global;
+
+/// A node of either kind, on a journal.
+pub trait Node<J: Journal>: Drop {
+    /// What its log gives back.
+    type Durable;
+
+    ghost seen: { Self → AnyNode J };
+
+    // What a node has that starts from this.
+    ghost gives: { Self.Durable → NodeDurable };
+
+    // These records of a log give back the state.
+    ghost back: { NodeName → Layout → List (List ℕ) → NodeDurable → Type 0 };
+
+    // A node of this name is of this kind.
+    ghost is_kind: { NodeName → Type 0 };
+
+    /// A node that starts from what its log gave back, and has nothing that a stop loses. At the refusal the journal comes back.
+    fn restart(
+        alloc: Global,
+        node: NodeId,
+        cluster: &Cluster,
+        journal: J,
+        durable: Self::Durable,
+    ) -> Result<Self, (NoMemory, J)>
+        requires kind { is_kind node }
+        requires sound { (J.state journal).failed ≡ false }
+        ensures ok { IfOk result (λ x. seen x ≡ started cluster.now node (gives durable) (new_volatile (gives durable)) journal) }
+        ensures err { IfErr result (λ refusal. refusal.1 ≡ journal) };
+
+    /// Does what the node does at a message. After a fault its states and the outbox are as before.
+    fn handle(&mut self, from: Party, msg: &Msg, out: &mut Outbox) -> Result<(), NodeFault>
+        requires { (seen self.old).stopped ≡ false }
+        ensures ok { OnOk result (HasActed J.state (seen self.old) (seen self.new) out.old out.new (act_of (seen self.old) (Came from msg.now))) }
+        ensures err { IfErr result (λ fault. HasRefused J.state J.may_leave fault (seen self.old) (seen self.new) out.old out.new (act_of (seen self.old) (Came from msg.now))) };
+
+    /// Whether the node is stopped. The journal of one that is not stopped has not failed.
+    fn stopped(&self) -> bool
+        ensures stopped { result ≡ (seen self.now).stopped }
+        ensures sound { result ≡ false → (J.state (seen self.now).journal).failed ≡ false };
+
+    /// The journal, also of a stopped node.
+    fn into_journal(self) -> J
+        ensures { result ≡ (seen self).journal };
+
+    /// Arms a cut of the power of the journal's disk at the k-th call from now.
+    fn power_cut(&mut self, k: u64, pick: u8)
+        requires up { (seen self.old).stopped ≡ false }
+        requires call { 1 ≤ k }
+        requires pick { pick ≤ 3 }
+        ensures node { seen self.new ≡ moved (seen self.old) (seen self.old).durable (seen self.old).volatile (seen self.new).journal false }
+        ensures armed { J.state (seen self.new).journal ≡ with_cut k pick (J.state (seen self.old).journal) };
+}

@@ -1,0 +1,51 @@
+// A shard server is a node.
+ghost use Rattle.rc_record.specs.InOrder.{shown};
+ghost use Rattle.rc_host.specs.AnyNode.{OfShard, IsShardServer, shard_seen, shard_back};
+
+use crate::Node;
+use rc_ids::{Cluster, NoMemory, NodeId, Party};
+use rc_locks::LockTable;
+use rc_log::Journal;
+use rc_msg::{Msg, Outbox};
+use rc_node::NodeFault;
+use rc_record::ShardDurable;
+use rc_shard::Shard;
+use std::alloc::Global;
+
+impl<J: Journal, L: LockTable> Node<J> for Shard<J, L> {
+    type Durable = ShardDurable;
+
+    ghost seen = { λ server. shard_seen server };
+
+    ghost gives = { λ durable. OfShard (shown durable) };
+
+    ghost back = { shard_back };
+
+    ghost is_kind = { IsShardServer };
+
+    fn restart(
+        alloc: Global,
+        node: NodeId,
+        cluster: &Cluster,
+        journal: J,
+        durable: ShardDurable,
+    ) -> Result<Self, (NoMemory, J)> {
+        Shard::restart(alloc, node, cluster, journal, durable)
+    }
+
+    fn handle(&mut self, from: Party, msg: &Msg, out: &mut Outbox) -> Result<(), NodeFault> {
+        Shard::handle(self, from, msg, out)
+    }
+
+    fn stopped(&self) -> bool {
+        Shard::stopped(self)
+    }
+
+    fn into_journal(self) -> J {
+        Shard::into_journal(self)
+    }
+
+    fn power_cut(&mut self, k: u64, pick: u8) {
+        Shard::power_cut(self, k, pick)
+    }
+}
