@@ -32,7 +32,7 @@ use Rattle.rc_host.specs.declared.host.Course.{Course}
 use Rattle.rc_host.specs.declared.host.Course.TheVariants.{Goes, Stops}
 use Rattle.rc_host.specs.declared.host.HostFault.{HostFault}
 use Rattle.rc_host.specs.declared.host.HostFault.TheVariants.{NoMemory, BallotsSpent, DiskFailed, Damaged, Lost}
-use Rattle.rc_host.specs.Hosts.{Sight, Run, IsHost, IsUp, HasLog, HasReadsLeft, AreLogged, IsLogged, Went, Stayed, StopsAt, IsOpenAgain, OpensAgain, StaysShut}
+use Rattle.rc_host.specs.Hosts.{Sight, Run, IsHost, IsUp, HasLog, HasReadsLeft, AreLogged, IsLogged, Went, Stayed, StopsAt, IsOpenAgain, OpensAgain, StaysShut, StopsOn}
 use Rattle.rc_host.proofs.Acting.{Gone, no_record, one_record, comes_some}
 use Rattle.rc_host.proofs.Stopping.{stops_failed, stops_full, held_after, counted_after}
 
@@ -136,12 +136,12 @@ module _ {N J D : Type 0} (s : Sight N J D) (gives : List (List ℕ) → NodeDur
   if_err (Err e) P Q step p = step e p
 
   -- a log that could not be opened again
-  stayed_shut : (host : Host N J D) (fault : HostFault) (dv : Device) (before after : Outbox) → device_after d act ≡ opened (powered dv) → after ≡ before → StaysShut fault dv → Stayed s gives run fault host before after x d act
-  stayed_shut host NoMemory dv before after leaves same shut = absurd shut
-  stayed_shut host BallotsSpent dv before after leaves same shut = absurd shut
-  stayed_shut host DiskFailed dv before after leaves same shut = (leaves ∙ shut, same)
-  stayed_shut host (Damaged offset) dv before after leaves same shut = absurd shut
-  stayed_shut host Lost dv before after leaves same shut = same
+  stayed_shut : (host : Host N J D) (fault : HostFault) (dv : Device) (before after : Outbox) → StopsOn d act → device_after d act ≡ opened (powered dv) → after ≡ before → StaysShut fault dv → Stayed s gives run fault host before after x d act
+  stayed_shut host NoMemory dv before after stops leaves same shut = absurd shut
+  stayed_shut host BallotsSpent dv before after stops leaves same shut = absurd shut
+  stayed_shut host DiskFailed dv before after stops leaves same shut = (stops, leaves ∙ shut, same)
+  stayed_shut host (Damaged offset) dv before after stops leaves same shut = absurd shut
+  stayed_shut host Lost dv before after stops leaves same shut = (stops, same)
 
   -- what a stop inside the act leaves, and what comes of it
   pub record Stopped (log : State) : Type 0 where
@@ -206,7 +206,7 @@ module _ {N J D : Type 0} (s : Sight N J D) (gives : List (List ℕ) → NodeDur
 
   pub stopped_err : (log : State) (host : Host N J D) (r : Result Course HostFault) (before after : Outbox) (z : Stopped log) → after ≡ before → IfErr r (λ fault. StaysShut fault z.device)
       → IfErr r (λ fault. Stayed s gives run fault host before after x d act)
-  stopped_err log host r before after z same shut = if_err r _ _ (λ fault stays. stayed_shut host fault z.device before after z.leaves same stays) shut
+  stopped_err log host r before after z same shut = if_err r _ _ (λ fault stays. stayed_shut host fault z.device before after (record { kept = z.kept; comes = z.comes }) z.leaves same stays) shut
 
   pub failed_stop : (new : N) (journal : J) (fault : NodeFault) (may_leave : J → List ℕ → Type 0) (before after : Outbox) → journal ≡ (s.seen new).journal
       → fault ≡ Failed → HasRefused s.state may_leave fault (s.seen node) (s.seen new) before after (act_of (s.seen node) cause) → AreLogged gives x act → HasReadsLeft run d

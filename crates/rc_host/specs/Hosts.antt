@@ -140,13 +140,18 @@ pub record Went {N J D : Type 0} (s : Sight N J D) (gives : List (List ℕ) → 
   pub host : IsHost s gives run new (standing_after x act course) device
   pub sends : after ≡ posts_after before act course
 
--- why an act was not done, and what that leaves. A host that is lost is good for nothing but its disk
+-- the node stops inside the act
+pub record StopsOn (d : Device) (act : AnyAct) : Type 0 where
+  pub kept : Bool
+  pub comes : course_on d act ≡ StopsInside kept
+
+-- why an act was not done, and what that leaves. A host that is lost stopped inside it, and is good for nothing but its disk
 abbrev pub Stayed : {N J D : Type 0} → Sight N J D → (List (List ℕ) → NodeDurable → Type 0) → Run → HostFault → Host N J D → Outbox → Outbox → Standing → Device → AnyAct → Type 0
 Stayed s gives run NoMemory new before after x d act = IsHost s gives run new x d × (after ≡ before)
 Stayed s gives run BallotsSpent new before after x d act = (act.spent ≡ true) × IsHost s gives run new x d × (after ≡ before)
-Stayed s gives run DiskFailed new before after x d act = (device_after d act ≡ None) × (after ≡ before)
+Stayed s gives run DiskFailed new before after x d act = StopsOn d act × (device_after d act ≡ None) × (after ≡ before)
 Stayed s gives run (Damaged offset) new before after x d act = ⊥
-Stayed s gives run Lost new before after x d act = after ≡ before
+Stayed s gives run Lost new before after x d act = StopsOn d act × (after ≡ before)
 
 -- WHAT A RECORD HAS TO BE
 -- it is read back as itself and is no head, its act is of the node's kind and has a ballot left, and behind records that give the state
