@@ -1,5 +1,8 @@
 // A coordinator.
 ghost use Rattle.std.specs.Prelude.{◌≡◌, ◌≤◌, ℕ, false, true, IsTrue, IsOk, OnOk, OnErr, IfOk, IfErr};
+ghost use Rattle.std.specs.Option.{option_copied};
+ghost use Rattle.std.specs.Ordering.{nat_cmp};
+ghost use Rattle.rc_ids.specs.Tables.{found};
 ghost use Rattle.rc_ids.specs.Cluster.{is_dc as is_of_world};
 ghost use Rattle.rc_ids.specs.declared.names.NodeId.TheVariants.{Coord as CoordNode};
 ghost use Rattle.rc_log.specs.Journals.{with_cut};
@@ -16,7 +19,8 @@ use crate::home::{Home, is_dc};
 use crate::overtaking::overtake;
 use crate::starting::tables_of;
 use crate::tables::{Store, Tables, new_tables};
-use rc_ids::{Cluster, DcId, NoMemory, NodeId, Party, TxId};
+use rc_body::Decision;
+use rc_ids::{Ballot, Cluster, DcId, NoMemory, NodeId, Party, TxId};
 use rc_log::Journal;
 use rc_msg::{Msg, Outbox};
 use rc_node::NodeFault;
@@ -136,6 +140,13 @@ impl<J: Journal> Coord<J> {
         ensures sound { result ≡ false → (J.state self.now.journal).failed ≡ false }
     {
         self.stopped
+    }
+
+    /// What was accepted last of the transaction, with its ballot.
+    pub fn accepted(&self, tx: TxId) -> Option<&(Ballot, Decision)>
+        ensures { option_copied result ≡ found nat_cmp self.now.durable.accepted tx }
+    {
+        self.store.tables.acceptor.accepted.get(tx)
     }
 
     /// Asks each other coordinator for the outcomes that come after those that were caught up with; or leaves all as before.

@@ -1,4 +1,4 @@
-//! Plays a script: from the source's bytes to the sink's text, over a session of `rc_world`.
+//! Plays a script: from the source's bytes to the sink's text, over a session of `rc_plain_world`.
 #![tactic(auto)]
 
 mod cluster;

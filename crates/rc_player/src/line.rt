@@ -10,7 +10,7 @@ use rc_ids::{NoMemory, Text};
 use rc_ports::{Sink, Status, write_all};
 use rc_report::{Line, Lines, render};
 use rc_script::NumberedCommand;
-use rc_world::{Session, SessionFault};
+use rc_plain_world::{Session, SessionFault};
 use std::alloc::Global;
 
 /// The text of the lines.

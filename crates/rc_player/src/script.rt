@@ -13,7 +13,7 @@ use crate::stop::Stop;
 use rc_ports::{Sink, Status};
 use rc_report::Line;
 use rc_script::{NumberedCommand, ScriptFault, parse};
-use rc_world::Session;
+use rc_plain_world::Session;
 use std::alloc::Global;
 
 /// The most bytes of a script.

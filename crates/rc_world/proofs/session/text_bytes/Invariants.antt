@@ -1,6 +1,0 @@
-use Rattle.std.proofs.Common.{◌≡◌, take}
-use Rattle.rc_runs.specs.Session.{text_bytes}
-use Rattle.rc_world.proofs.session.text_bytes.Given as goal
-
-abbrev pub invariant-loop-line : goal.invariant-loop-line
-invariant-loop-line l = l.bytes ≡ text_bytes (take l.line-index l.lines)
