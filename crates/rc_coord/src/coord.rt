@@ -142,6 +142,13 @@ impl<J: Journal> Coord<J> {
         self.stopped
     }
 
+    /// How many records its journal has.
+    pub fn count(&self) -> u64
+        ensures { result ≡ (J.state self.now.journal).count }
+    {
+        self.store.journal.count()
+    }
+
     /// What was accepted last of the transaction, with its ballot.
     pub fn accepted(&self, tx: TxId) -> Option<&(Ballot, Decision)>
         ensures { option_copied result ≡ found nat_cmp self.now.durable.accepted tx }

@@ -1,0 +1,6 @@
+pub mod Lists
+pub mod Courses
+pub mod CoordActs
+pub mod ShardActs
+pub mod Happenings
+pub mod ClientActs

@@ -1,0 +1,2 @@
+//! A world of nodes on their disks, clients and the network between them: one event on all.
+#![tactic(auto)]
