@@ -4,3 +4,4 @@ pub mod CoordActs
 pub mod ShardActs
 pub mod Happenings
 pub mod ClientActs
+pub mod Votes

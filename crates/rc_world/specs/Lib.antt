@@ -1,2 +1,4 @@
 -- What the contracts of this crate and of those above it cite.
 pub mod Steps
+pub mod Votes
+pub mod Places
