@@ -1,6 +1,6 @@
 -- A node of either kind: what its log gives back, what a stop loses, and what it does.
-use Rattle.std.specs.Prelude.{◌≡◌, ℕ, false, List, [], None}
-use Rattle.rc_ids.specs.Cluster.{Layout}
+use Rattle.std.specs.Prelude.{◌≡◌, ℕ, IsTrue, false, List, [], None}
+use Rattle.rc_ids.specs.Cluster.{Layout, is_dc}
 use Rattle.rc_ids.specs.declared.names.NodeId.{NodeId}
 use Rattle.rc_ids.specs.declared.names.NodeId.TheVariants.{Coord, Shard as ShardServer}
 use Rattle.rc_record.specs.ShardState.{ShardDurable}
@@ -11,7 +11,7 @@ use Rattle.rc_protocol.specs.Coordinator.{CoordVolatile, new_volatile as new_coo
 use Rattle.rc_node.specs.Acts.{NodeAct, shard_does, coord_does}
 use Rattle.rc_node.specs.Cores.{Core}
 use Rattle.rc_shard.specs.Sites.{ShardCore}
-use Rattle.rc_shard.specs.Replays.{GivesBack}
+use Rattle.rc_shard.specs.Replays.{GivesBack as GivesShardBack}
 
 pub data NodeDurable : Type 0 where
   OfShard : ShardDurable → NodeDurable
@@ -67,5 +67,5 @@ shard_seen x = record {
 }
 
 abbrev pub shard_back : NodeId → Layout → List (List ℕ) → NodeDurable → Type 0
-shard_back node c blobs (OfShard s) = GivesBack node c blobs s
+shard_back node c blobs (OfShard s) = GivesShardBack node c blobs s
 shard_back node c blobs (OfCoord s) = ⊥

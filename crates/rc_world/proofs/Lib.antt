@@ -5,3 +5,4 @@ pub mod ShardActs
 pub mod Happenings
 pub mod ClientActs
 pub mod Votes
+pub mod CoordHosts

@@ -67,13 +67,13 @@ all_before P hosts i h g at back all j k at_k =
 
 -- NAMES
 pub coord_named : (d : ℕ) → 1 ≤ d → coord_name (coord_index d) ≡ Coord d
-coord_named d low = let e : d - 1 + 1 ≡ d = omega (arith, low) in ap Coord e
+coord_named d low = let e : suc (d - 1) ≡ d = omega (arith, low) in ap Coord e
 
 pub shard_named : (c : Layout) (d sh : ℕ) → 1 ≤ d → 1 ≤ sh → sh ≤ c.shards → shard_name c (shard_index c d sh) ≡ ShardServer d sh
 shard_named c d sh low_d low_sh high =
     let below : sh - 1 < c.shards = omega (arith, low_sh, high) in
-    let dc : d - 1 + 1 ≡ d = omega (arith, low_d) in
-    let shard : sh - 1 + 1 ≡ sh = omega (arith, low_sh) in
-    ap (λ (n : ℕ). ShardServer (n + 1) (shard_index c d sh % c.shards + 1)) (div-mul-add (d - 1) c.shards (sh - 1) below)
-    ∙ ap (λ (n : ℕ). ShardServer (d - 1 + 1) (n + 1)) (mod-mul-add (d - 1) c.shards (sh - 1) below)
-    ∙ ap (λ (n : ℕ). ShardServer n (sh - 1 + 1)) dc ∙ ap (ShardServer d) shard
+    let dc : suc (d - 1) ≡ d = omega (arith, low_d) in
+    let shard : suc (sh - 1) ≡ sh = omega (arith, low_sh) in
+    ap (λ (n : ℕ). ShardServer (suc n) (suc (shard_index c d sh % c.shards))) (div-mul-add (d - 1) c.shards (sh - 1) below)
+    ∙ ap (λ (n : ℕ). ShardServer (suc (d - 1)) (suc n)) (mod-mul-add (d - 1) c.shards (sh - 1) below)
+    ∙ ap (λ (n : ℕ). ShardServer n (suc (sh - 1))) dc ∙ ap (ShardServer d) shard

@@ -1,15 +1,15 @@
 -- Nodes at their places: d1, d2 and so on, and d1.s1, d1.s2 and so on, then those of d2.
-use Rattle.std.specs.Prelude.{◌≡◌, ℕ, ◌+◌, ◌/◌, ◌%◌, List, length, Some, slice_get}
+use Rattle.std.specs.Prelude.{◌≡◌, ℕ, suc, ◌+◌, ◌/◌, ◌%◌, List, length, Some, slice_get}
 use Rattle.rc_ids.specs.Cluster.{Layout}
 use Rattle.rc_ids.specs.declared.names.NodeId.{NodeId}
 use Rattle.rc_ids.specs.declared.names.NodeId.TheVariants.{Coord, Shard as ShardServer}
 use Rattle.rc_runs.specs.Devices.{Device}
 
 abbrev pub coord_name : ℕ → NodeId
-coord_name place = Coord (place + 1)
+coord_name place = Coord (suc place)
 
 abbrev pub shard_name : Layout → ℕ → NodeId
-shard_name c place = ShardServer (place / c.shards + 1) (place % c.shards + 1)
+shard_name c place = ShardServer (suc (place / c.shards)) (suc (place % c.shards))
 
 -- each host is the run's node at its place, on the device there
 pub record AreAt {H X : Type 0} (Is : ℕ → H → X → Device → Type 0) (hosts : List H) (nodes : List X) (devices : List Device) : Type 0 where
