@@ -4,3 +4,8 @@ pub mod OpenFacts
 pub mod Acting
 pub mod Stopping
 pub mod Turning
+pub mod Remembering
+pub mod ShardRecords
+pub mod CoordRecords
+pub mod Logging
+pub mod CoordLogging

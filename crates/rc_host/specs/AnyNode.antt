@@ -12,6 +12,8 @@ use Rattle.rc_node.specs.Acts.{NodeAct, shard_does, coord_does}
 use Rattle.rc_node.specs.Cores.{Core}
 use Rattle.rc_shard.specs.Sites.{ShardCore}
 use Rattle.rc_shard.specs.Replays.{GivesBack as GivesShardBack}
+use Rattle.rc_coord.specs.Sites.{CoordCore}
+use Rattle.rc_coord.specs.Replays.{GivesBack as GivesCoordBack}
 
 pub data NodeDurable : Type 0 where
   OfShard : ShardDurable → NodeDurable
@@ -69,3 +71,23 @@ shard_seen x = record {
 abbrev pub shard_back : NodeId → Layout → List (List ℕ) → NodeDurable → Type 0
 shard_back node c blobs (OfShard s) = GivesShardBack node c blobs s
 shard_back node c blobs (OfCoord s) = ⊥
+
+-- COORDINATORS, each of a datacentre of the cluster
+pub record IsCoordinator (node : NodeId) (c : Layout) : Type 0 where
+  pub dc : ℕ
+  pub is : node ≡ Coord dc
+  pub known : IsTrue (is_dc c dc)
+
+abbrev pub coord_seen : {J : Type 0} → CoordCore J → AnyNode J
+coord_seen x = record {
+  cluster = x.cluster;
+  name = Coord x.name;
+  durable = OfCoord x.durable;
+  volatile = OfCoordNow x.volatile;
+  journal = x.journal;
+  stopped = x.stopped;
+}
+
+abbrev pub coord_back : NodeId → Layout → List (List ℕ) → NodeDurable → Type 0
+coord_back node c blobs (OfCoord s) = GivesCoordBack node c blobs s
+coord_back node c blobs (OfShard s) = ⊥

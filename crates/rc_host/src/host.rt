@@ -4,17 +4,19 @@ ghost use Rattle.rc_disk.specs.Calls.{Told, read_bytes};
 ghost use Rattle.rc_log.specs.Records.{records};
 ghost use Rattle.rc_runs.specs.Devices.{Device};
 ghost use Rattle.rc_devices.specs.Disks.{IsKept};
-ghost use Rattle.rc_protocol.specs.Acts.{Came};
+ghost use Rattle.rc_record.specs.Spelling.{HasRecord};
 ghost use Rattle.rc_host.specs.AnyNode.{node_act};
+ghost use Rattle.rc_host.specs.Causes.{cause_of};
 ghost use Rattle.rc_host.specs.Standing.{Standing};
+ghost use Rattle.rc_host.specs.declared.host.Host.TheVariants.{Up};
 ghost use Rattle.rc_host.specs.declared.host.Course.TheVariants.{Goes};
-ghost use Rattle.rc_host.specs.Hosts.{Run, sight, is_up, IfUp, IsHost, IsUp, IsToldBy, HasReadsLeft, AreLogged, Went, Stayed, StopsAt, OpensAgain, StaysShut};
+ghost use Rattle.rc_host.specs.Hosts.{Run, sight, is_up, IfUp, IsHost, IsUp, CanRead, IsToldBy, HasReadsLeft, Went, Stayed, StopsAt, OpensAgain, StaysShut};
 
-use crate::Node;
+use crate::{Cause, Node};
 use rc_disk::Disk;
-use rc_ids::{Blobs, NoMemory, Party};
+use rc_ids::{Blobs, NoMemory};
 use rc_log::{Journal, Log, OpenFault};
-use rc_msg::{Msg, Outbox};
+use rc_msg::Outbox;
 use rc_node::NodeFault;
 use std::alloc::Global;
 use std::mem;
@@ -92,25 +94,26 @@ fn open_at_once<D: Disk, N: Node<Log<D>>>(
     }
 }
 
-/// The node handles a message: its host after that, and how it went. Where it stops inside, its log is opened at once.
+/// The node acts: its host after that, and how it went. Where it stops inside, its log is opened at once.
 fn turn<D: Disk, N: Node<Log<D>>>(
     alloc: Global,
     node: N,
-    from: Party,
-    msg: &Msg,
+    cause: &Cause<'_>,
     out: &mut Outbox,
 ) -> (Host<N, Log<D>, D>, Result<Course, HostFault>)
     requires { (N.seen node).stopped ≡ false }
     ensures ok { (run : Run) (x : Standing) (d : Device) → IsUp (sight N.seen ⟦<Log<D> as Journal>⟧.state D.told D.content D.power) (N.back run.node run.cluster) run node x d → HasReadsLeft run d
-        → let act = node_act run.cluster run.node x.durable x.volatile (Came from msg.now) in AreLogged (N.back run.node run.cluster) x act → IsToldBy (sight N.seen ⟦<Log<D> as Journal>⟧.state D.told D.content D.power) result.0 run.ended
+        → let act = node_act run.cluster run.node x.durable x.volatile (cause_of cause.now) in IfSome act.logs HasRecord → IsToldBy (sight N.seen ⟦<Log<D> as Journal>⟧.state D.told D.content D.power) result.0 run.ended
         → IfOk result.1 (λ course. Went (sight N.seen ⟦<Log<D> as Journal>⟧.state D.told D.content D.power) (N.back run.node run.cluster) run course result.0 out.old out.new x d act) }
     ensures err { (run : Run) (x : Standing) (d : Device) → IsUp (sight N.seen ⟦<Log<D> as Journal>⟧.state D.told D.content D.power) (N.back run.node run.cluster) run node x d → HasReadsLeft run d
-        → let act = node_act run.cluster run.node x.durable x.volatile (Came from msg.now) in AreLogged (N.back run.node run.cluster) x act → IsToldBy (sight N.seen ⟦<Log<D> as Journal>⟧.state D.told D.content D.power) result.0 run.ended
+        → let act = node_act run.cluster run.node x.durable x.volatile (cause_of cause.now) in IfSome act.logs HasRecord → IsToldBy (sight N.seen ⟦<Log<D> as Journal>⟧.state D.told D.content D.power) result.0 run.ended
         → IfErr result.1 (λ fault. Stayed (sight N.seen ⟦<Log<D> as Journal>⟧.state D.told D.content D.power) (N.back run.node run.cluster) run fault result.0 out.old out.new x d act) }
     ensures up { IfUp result.0 (λ after. (N.seen after).stopped ≡ false) }
+    ensures grew { (ended : Told) → CanRead (sight N.seen ⟦<Log<D> as Journal>⟧.state D.told D.content D.power) (Up node) → IsToldBy (sight N.seen ⟦<Log<D> as Journal>⟧.state D.told D.content D.power) result.0 ended → IsToldBy (sight N.seen ⟦<Log<D> as Journal>⟧.state D.told D.content D.power) (Up node) ended }
 {
+    N::logged_acts();
     let mut node = node;
-    match node.handle(from, msg, out) {
+    match node.act(cause, out) {
         Ok(()) => (Host::Up(node), Ok(Course::Goes)),
         Err(NodeFault::NoMemory) => (Host::Up(node), Err(HostFault::NoMemory)),
         Err(NodeFault::BallotsSpent) => (Host::Up(node), Err(HostFault::BallotsSpent)),
@@ -119,29 +122,29 @@ fn turn<D: Disk, N: Node<Log<D>>>(
     }
 }
 
-/// The node, if it is up, handles a message: at `Ok` it did its row and goes on, or stopped inside the event, and then its log was opened at
+/// The node, if it is up, acts: at `Ok` it did its row and goes on, or stopped inside the event, and then its log was opened at
 /// once and tells whether the record was kept. After `NoMemory` and `BallotsSpent` all is as before; after the other faults the host is
 /// good for nothing but its disk. A node that is down does nothing.
-pub fn deliver<D: Disk, N: Node<Log<D>>>(
+pub fn act<D: Disk, N: Node<Log<D>>>(
     alloc: Global,
     host: &mut Host<N, Log<D>, D>,
-    from: Party,
-    msg: &Msg,
+    cause: &Cause<'_>,
     out: &mut Outbox,
 ) -> Result<Course, HostFault>
     requires { IfUp host.old (λ node. (N.seen node).stopped ≡ false) }
     ensures up { IfUp host.new (λ node. (N.seen node).stopped ≡ false) }
     ensures ok { (run : Run) (x : Standing) (d : Device) → is_up host.old ≡ true → IsHost (sight N.seen ⟦<Log<D> as Journal>⟧.state D.told D.content D.power) (N.back run.node run.cluster) run host.old x d → HasReadsLeft run d
-        → let act = node_act run.cluster run.node x.durable x.volatile (Came from msg.now) in AreLogged (N.back run.node run.cluster) x act → IsToldBy (sight N.seen ⟦<Log<D> as Journal>⟧.state D.told D.content D.power) host.new run.ended
+        → let act = node_act run.cluster run.node x.durable x.volatile (cause_of cause.now) in IfSome act.logs HasRecord → IsToldBy (sight N.seen ⟦<Log<D> as Journal>⟧.state D.told D.content D.power) host.new run.ended
         → IfOk result (λ course. Went (sight N.seen ⟦<Log<D> as Journal>⟧.state D.told D.content D.power) (N.back run.node run.cluster) run course host.new out.old out.new x d act) }
     ensures err { (run : Run) (x : Standing) (d : Device) → is_up host.old ≡ true → IsHost (sight N.seen ⟦<Log<D> as Journal>⟧.state D.told D.content D.power) (N.back run.node run.cluster) run host.old x d → HasReadsLeft run d
-        → let act = node_act run.cluster run.node x.durable x.volatile (Came from msg.now) in AreLogged (N.back run.node run.cluster) x act → IsToldBy (sight N.seen ⟦<Log<D> as Journal>⟧.state D.told D.content D.power) host.new run.ended
+        → let act = node_act run.cluster run.node x.durable x.volatile (cause_of cause.now) in IfSome act.logs HasRecord → IsToldBy (sight N.seen ⟦<Log<D> as Journal>⟧.state D.told D.content D.power) host.new run.ended
         → IfErr result (λ fault. Stayed (sight N.seen ⟦<Log<D> as Journal>⟧.state D.told D.content D.power) (N.back run.node run.cluster) run fault host.new out.old out.new x d act) }
+    ensures grew { (ended : Told) → CanRead (sight N.seen ⟦<Log<D> as Journal>⟧.state D.told D.content D.power) host.old → IsToldBy (sight N.seen ⟦<Log<D> as Journal>⟧.state D.told D.content D.power) host.new ended → IsToldBy (sight N.seen ⟦<Log<D> as Journal>⟧.state D.told D.content D.power) host.old ended }
     ensures idle { is_up host.old ≡ false → (host.new ≡ host.old) × (out.new ≡ out.old) × (result ≡ Ok Goes) }
 {
     match mem::replace(host, Host::Lent) {
         Host::Up(node) => {
-            let (next, course) = turn(alloc, node, from, msg, out);
+            let (next, course) = turn(alloc, node, cause, out);
             *host = next;
             course
         }

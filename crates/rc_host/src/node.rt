@@ -1,18 +1,32 @@
 // What a node is to its host.
-ghost use Rattle.std.specs.Prelude.{◌≡◌, ◌≤◌, ℕ, List, false, OnOk, OnErr, IfOk, IfErr};
+ghost use Rattle.std.specs.Prelude.{◌≡◌, ◌≤◌, ℕ, List, false, OnOk, IfOk, IfErr, IfSome};
 ghost use Rattle.rc_ids.specs.declared.names.NodeId.{NodeId as NodeName};
 ghost use Rattle.rc_ids.specs.Cluster.{Layout};
 ghost use Rattle.rc_log.specs.Journals.{with_cut};
-ghost use Rattle.rc_msg.specs.Posts.{posted_all};
-ghost use Rattle.rc_protocol.specs.Acts.{Came, Catches, Takes};
+ghost use Rattle.rc_record.specs.Spelling.{HasRecord};
+ghost use Rattle.rc_protocol.specs.Acts.{NodeCause};
 ghost use Rattle.rc_node.specs.Cores.{HasActed, HasRefused, moved, started};
-ghost use Rattle.rc_host.specs.AnyNode.{AnyNode, NodeDurable, new_volatile, act_of};
+ghost use Rattle.rc_host.specs.AnyNode.{AnyNode, NodeDurable, new_volatile, act_of, node_act};
+ghost use Rattle.rc_host.specs.Causes.{cause_of};
+ghost use Rattle.rc_host.specs.Standing.{Standing};
+ghost use Rattle.rc_host.specs.Hosts.{AreLogged};
 
 use rc_ids::{Cluster, NoMemory, NodeId, Party, TxId};
 use rc_log::Journal;
 use rc_msg::{Msg, Outbox};
 use rc_node::NodeFault;
 use std::alloc::Global;
+
+/// What moves a node.
+#[derive(Clone, Copy)]
+pub enum Cause<'a> {
+    /// A message comes from this party.
+    Came(Party, &'a Msg),
+    /// It asks for the outcomes that come after those that it caught up with.
+    Catches,
+    /// It takes the transaction over. Coordinators alone do.
+    Takes(TxId),
+}
 
 /// A node of either kind, on a journal.
 pub trait Node<J: Journal>: Drop {
@@ -27,8 +41,8 @@ pub trait Node<J: Journal>: Drop {
     // These records of a log give back the state.
     ghost back: { NodeName → Layout → List (List ℕ) → NodeDurable → Type 0 };
 
-    // A node of this name is of this kind.
-    ghost is_kind: { NodeName → Type 0 };
+    // A node of this name in this cluster is of this kind.
+    ghost is_kind: { NodeName → Layout → Type 0 };
 
     /// A node that starts from what its log gave back, and has nothing that a stop loses. At the refusal the journal comes back.
     fn restart(
@@ -38,16 +52,16 @@ pub trait Node<J: Journal>: Drop {
         journal: J,
         durable: Self::Durable,
     ) -> Result<Self, (NoMemory, J)>
-        requires kind { is_kind node }
+        requires kind { is_kind node cluster.now }
         requires sound { (J.state journal).failed ≡ false }
         ensures ok { IfOk result (λ x. seen x ≡ started cluster.now node (gives durable) (new_volatile (gives durable)) journal) }
         ensures err { IfErr result (λ refusal. refusal.1 ≡ journal) };
 
-    /// Does what the node does at a message. After a fault its states and the outbox are as before.
-    fn handle(&mut self, from: Party, msg: &Msg, out: &mut Outbox) -> Result<(), NodeFault>
+    /// Does what the node does at the cause. After a fault its states and the outbox are as before.
+    fn act(&mut self, cause: &Cause<'_>, out: &mut Outbox) -> Result<(), NodeFault>
         requires { (seen self.old).stopped ≡ false }
-        ensures ok { OnOk result (HasActed J.state (seen self.old) (seen self.new) out.old out.new (act_of (seen self.old) (Came from msg.now))) }
-        ensures err { IfErr result (λ fault. HasRefused J.state J.may_leave fault (seen self.old) (seen self.new) out.old out.new (act_of (seen self.old) (Came from msg.now))) };
+        ensures ok { OnOk result (HasActed J.state (seen self.old) (seen self.new) out.old out.new (act_of (seen self.old) (cause_of cause.now))) }
+        ensures err { IfErr result (λ fault. HasRefused J.state J.may_leave fault (seen self.old) (seen self.new) out.old out.new (act_of (seen self.old) (cause_of cause.now))) };
 
     /// Whether the node is stopped. The journal of one that is not stopped has not failed.
     fn stopped(&self) -> bool
@@ -65,4 +79,8 @@ pub trait Node<J: Journal>: Drop {
         requires pick { pick ≤ 3 }
         ensures node { seen self.new ≡ moved (seen self.old) (seen self.old).durable (seen self.old).volatile (seen self.new).journal false }
         ensures armed { J.state (seen self.new).journal ≡ with_cut k pick (J.state (seen self.old).journal) };
+
+    /// An act's record that has a spelling is logged.
+    fn logged_acts()
+        ensures { (node : NodeName) (c : Layout) (x : Standing) (cause : NodeCause) → let act = node_act c node x.durable x.volatile cause in IfSome act.logs HasRecord → AreLogged (back node c) x act };
 }

@@ -2,14 +2,14 @@
 ghost use Rattle.rc_record.specs.InOrder.{shown};
 ghost use Rattle.rc_host.specs.AnyNode.{OfShard, IsShardServer, shard_seen, shard_back};
 
-use crate::Node;
-use rc_ids::{Cluster, NoMemory, NodeId, Party};
+use crate::{Cause, Node};
+use rc_ids::{Cluster, NoMemory, NodeId};
 use rc_locks::LockTable;
 use rc_log::Journal;
-use rc_msg::{Msg, Outbox};
+use rc_msg::Outbox;
 use rc_node::NodeFault;
-use rc_record::ShardDurable;
-use rc_shard::Shard;
+use rc_record::{ShardDurable, record_laws};
+use rc_shard::{Shard, replay_laws};
 use std::alloc::Global;
 
 impl<J: Journal, L: LockTable> Node<J> for Shard<J, L> {
@@ -21,7 +21,7 @@ impl<J: Journal, L: LockTable> Node<J> for Shard<J, L> {
 
     ghost back = { shard_back };
 
-    ghost is_kind = { IsShardServer };
+    ghost is_kind = { λ node cluster. IsShardServer node };
 
     fn restart(
         alloc: Global,
@@ -33,8 +33,12 @@ impl<J: Journal, L: LockTable> Node<J> for Shard<J, L> {
         Shard::restart(alloc, node, cluster, journal, durable)
     }
 
-    fn handle(&mut self, from: Party, msg: &Msg, out: &mut Outbox) -> Result<(), NodeFault> {
-        Shard::handle(self, from, msg, out)
+    fn act(&mut self, cause: &Cause<'_>, out: &mut Outbox) -> Result<(), NodeFault> {
+        match cause {
+            Cause::Came(from, msg) => Shard::handle(self, *from, msg, out),
+            Cause::Catches => Ok(Shard::catch(self, out)?),
+            Cause::Takes(_) => Ok(()),
+        }
     }
 
     fn stopped(&self) -> bool {
@@ -47,5 +51,10 @@ impl<J: Journal, L: LockTable> Node<J> for Shard<J, L> {
 
     fn power_cut(&mut self, k: u64, pick: u8) {
         Shard::power_cut(self, k, pick)
+    }
+
+    fn logged_acts() {
+        record_laws();
+        replay_laws();
     }
 }

@@ -18,14 +18,14 @@ use Rattle.rc_runs.specs.World.{Parties, Course as RunCourse, Goes as GoesOn, St
 use Rattle.rc_runs.specs.Session.{Session}
 use Rattle.rc_runs.specs.Devices.{Device, appended, course_of, record_length}
 use Rattle.rc_node.specs.Acts.{coord_does}
-use Rattle.rc_host.specs.AnyNode.{AnyAct, of_coord, node_act, OfCoord, OfCoordNow}
+use Rattle.rc_host.specs.AnyNode.{AnyAct, of_coord, node_act, coord_back, OfCoord, OfCoordNow}
 use Rattle.rc_host.specs.Standing.{Standing, coord_standing}
 use Rattle.rc_host.specs.Hosts.{Sight, IsHost, Went, course_in, standing_after, posts_after}
 use Rattle.rc_host.specs.declared.host.Host.{Host}
 use Rattle.rc_host.specs.declared.host.Course.{Course}
 use Rattle.rc_host.specs.declared.host.Course.TheVariants.{Goes, Stops}
 use Rattle.rc_world.specs.Places.{coord_name, AreAt}
-use Rattle.rc_world.specs.Hosts.{Runs, run_at, IsCoord, coord_back}
+use Rattle.rc_world.specs.Hosts.{Runs, run_at, IsCoord}
 use Rattle.rc_world.specs.Steps.{EventActed}
 use Rattle.rc_world.proofs.Lists.{one_changes}
 use Rattle.rc_world.proofs.Courses.{course_for, device_for, sends_left, record_left, lines_left}

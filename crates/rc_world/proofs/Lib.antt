@@ -6,3 +6,7 @@ pub mod Happenings
 pub mod ClientActs
 pub mod Votes
 pub mod CoordHosts
+pub mod ShardHosts
+pub mod MailFacts
+pub mod PostFacts
+pub mod Turning

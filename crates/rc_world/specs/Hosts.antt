@@ -10,17 +10,11 @@ use Rattle.rc_protocol.specs.Nodes.{CoordNode, ShardNode, coord_replayed, shard_
 use Rattle.rc_runs.specs.Devices.{Device}
 use Rattle.rc_runs.specs.Farms.{reads_at}
 use Rattle.rc_runs.specs.World.{Parties}
-use Rattle.rc_host.specs.AnyNode.{NodeDurable, OfCoord, OfShard, shard_back}
-use Rattle.rc_coord.specs.Replays.{GivesBack}
+use Rattle.rc_host.specs.AnyNode.{coord_back, shard_back}
 use Rattle.rc_host.specs.Standing.{coord_standing, shard_standing}
 use Rattle.rc_host.specs.Hosts.{Sight, Run, IsHost, IsToldBy}
 use Rattle.rc_host.specs.declared.host.Host.{Host}
 use Rattle.rc_world.specs.Places.{coord_name, shard_name, AreAt, AllAt}
-
--- TEMPORARY
-abbrev pub coord_back : NodeId → Layout → List (List ℕ) → NodeDurable → Type 0
-coord_back node c blobs (OfCoord s) = GivesBack node c blobs s
-coord_back node c blobs (OfShard s) = ⊥
 
 -- where the runs of all nodes begin, and what their disks tell at the end
 pub record Runs : Type 0 where

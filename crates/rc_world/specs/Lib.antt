@@ -3,3 +3,7 @@ pub mod Steps
 pub mod Votes
 pub mod Places
 pub mod Hosts
+pub mod Mail
+pub mod Worlds
+pub mod Words
+pub mod Turns

@@ -1,5 +1,5 @@
 // Why a world refuses an event.
-use rc_ids::NodeId;
+use rc_ids::{NoMemory, NodeId};
 use rc_report::{LogFault, Which, Wrong};
 use thiserror::Error;
 
@@ -22,4 +22,15 @@ pub enum WorldFault {
     /// The event names something wrongly. All is as before.
     #[error("a name is wrong")]
     Naming(Wrong),
+}
+
+impl From<NoMemory> for WorldFault {
+    ghost use Rattle.std.specs.Prelude.{◌≡◌};
+    ghost use Rattle.rc_world.specs.declared.fault.WorldFault.TheVariants.{NoMemory as OutOfMemory};
+
+    ghost from_gives = { λ _ e. e ≡ OutOfMemory };
+
+    fn from(_error: NoMemory) -> Self {
+        WorldFault::NoMemory
+    }
 }

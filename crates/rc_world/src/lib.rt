@@ -2,5 +2,9 @@
 #![tactic(auto)]
 
 mod fault;
+mod mail;
+mod turns;
+mod world;
 
 pub use fault::WorldFault;
+pub use world::World;
