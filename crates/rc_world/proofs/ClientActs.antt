@@ -12,8 +12,7 @@ use Rattle.rc_protocol.specs.Acts.{ClientCause, client_act}
 use Rattle.rc_runs.specs.World.{Parties, Deed, Idle, ByClient, Course, along, after_begin, parties_after, sends_of, lines_of, with_client, with_new_client, client_does, deed, restart_lines, course_deed}
 use Rattle.rc_runs.specs.Refusals.{worn_out, limit_of}
 use Rattle.rc_runs.specs.Session.{Session, DiskChange, disk_change, with_change}
-use Rattle.rc_world.specs.Steps.{EventActed}
-use Rattle.rc_world.proofs.Courses.{deed_change}
+use Rattle.rc_world.specs.Steps.{EventActed, IsDone, deed_change}
 
 module _ (z : Session) (e : Event) where
   abbrev p : Parties
@@ -22,13 +21,7 @@ module _ (z : Session) (e : Event) where
   abbrev the_deed : Deed
   the_deed = deed p z.world.sent e
 
-  -- the event is one in which a party does a deed
-  pub record IsDone : Type 0 where
-    pub change : disk_change z e ≡ deed_change z the_deed
-    pub begins : after_begin p e ≡ p
-    pub starts : restart_lines e ≡ []
-
-  pub idles : IsDone → the_deed ≡ Idle → EventActed z e p z.coords z.shards [] []
+  pub idles : IsDone z e → the_deed ≡ Idle → EventActed z e p z.coords z.shards [] []
   idles is nobody =
       let change_is : disk_change z e ≡ deed_change z Idle = is.change ∙ ap (deed_change z) nobody in
       let deed_is : along (disk_change z e).course the_deed ≡ Idle = ap (λ (c : DiskChange). along c.course the_deed) change_is ∙ nobody in
@@ -40,7 +33,7 @@ module _ (z : Session) (e : Event) where
         whole = ap worn_out deed_is;
       }
 
-  pub client_acted : (t : ℕ) (act : ClientAct) → IsDone → the_deed ≡ ByClient t act → act.refused ≡ None → EventActed z e (with_client p t act.after) z.coords z.shards act.sends act.lines
+  pub client_acted : (t : ℕ) (act : ClientAct) → IsDone z e → the_deed ≡ ByClient t act → act.refused ≡ None → EventActed z e (with_client p t act.after) z.coords z.shards act.sends act.lines
   client_acted t act is acts taken =
       let change_is : disk_change z e ≡ deed_change z (ByClient t act) = is.change ∙ ap (deed_change z) acts in
       let deed_is : along (disk_change z e).course the_deed ≡ ByClient t act = ap (λ (c : DiskChange). along c.course the_deed) change_is ∙ acts in
@@ -53,7 +46,7 @@ module _ (z : Session) (e : Event) where
       }
 
   -- a version that the client would write is past the last
-  pub client_worn : (t : ℕ) (act : ClientAct) → IsDone → the_deed ≡ ByClient t act → act.refused ≡ Some KeyWornOut → worn_out (course_deed z.world e (disk_change z e).course) ≡ Some Version
+  pub client_worn : (t : ℕ) (act : ClientAct) → IsDone z e → the_deed ≡ ByClient t act → act.refused ≡ Some KeyWornOut → worn_out (course_deed z.world e (disk_change z e).course) ≡ Some Version
   client_worn t act is acts worn =
       let change_is : disk_change z e ≡ deed_change z (ByClient t act) = is.change ∙ ap (deed_change z) acts in
       let deed_is : along (disk_change z e).course the_deed ≡ ByClient t act = ap (λ (c : DiskChange). along c.course the_deed) change_is ∙ acts in

@@ -26,11 +26,10 @@ use Rattle.rc_host.specs.declared.host.Course.{Course}
 use Rattle.rc_host.specs.declared.host.Course.TheVariants.{Goes, Stops}
 use Rattle.rc_world.specs.Places.{coord_name, AreAt}
 use Rattle.rc_world.specs.Hosts.{Runs, run_at, IsCoord}
-use Rattle.rc_world.specs.Steps.{EventActed}
+use Rattle.rc_world.specs.Steps.{EventActed, IsDone}
 use Rattle.rc_world.proofs.Lists.{one_changes}
 use Rattle.rc_world.proofs.Courses.{course_for, device_for, sends_left, record_left, lines_left}
 use Rattle.rc_world.proofs.CoordActs.{coord_left, coord_acted, does}
-use Rattle.rc_world.proofs.ClientActs.{IsDone}
 
 abbrev act_with : Option Record → CoordAct → CoordAct
 act_with logs act = record { logs = logs; after = act.after; sends = act.sends; spent = act.spent }

@@ -6,9 +6,9 @@ use Rattle.rc_record.specs.declared.record.Record.{Record}
 use Rattle.rc_report.specs.declared.line.Line.{Line}
 use Rattle.rc_report.specs.declared.line.Line.TheVariants.{Stopped}
 use Rattle.rc_protocol.specs.Messages.{Posts}
-use Rattle.rc_runs.specs.World.{Deed, Course, Goes, Stops, kept_record}
+use Rattle.rc_runs.specs.World.{Course, Goes, Stops, kept_record}
 use Rattle.rc_runs.specs.Devices.{Device, appended, course_of, record_length}
-use Rattle.rc_runs.specs.Session.{Session, DiskChange, device_of, no_change, append_of, append_change, after_append}
+use Rattle.rc_runs.specs.Session.{after_append}
 
 -- how the append of an act's record goes on the device, and the device after it
 abbrev pub course_for : Option Record → Device → Course
@@ -29,7 +29,3 @@ sends_left logs sends (Stops kept) = maybe logs sends (λ _. [])
 abbrev pub lines_left : NodeId → Option Record → Course → List Line
 lines_left node logs Goes = []
 lines_left node logs (Stops kept) = maybe logs [] (λ _. Stopped node ∷ [])
-
--- what the deed asks of a disk
-abbrev pub deed_change : Session → Deed → DiskChange
-deed_change z dd = maybe (append_of dd) no_change (λ a. append_change a.0 (appended (device_of z a.0) a.1))

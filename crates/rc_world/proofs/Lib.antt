@@ -10,3 +10,4 @@ pub mod ShardHosts
 pub mod MailFacts
 pub mod PostFacts
 pub mod Turning
+pub mod ShardTurns

@@ -1,6 +1,7 @@
 -- Lists of which one entry is set, and what stands at their places.
 use Rattle.std.proofs.Common.{◌≡◌, ℕ, zero, suc, ◌<◌, ◌≤◌, ◌+◌, ◌-◌, ◌*◌, List, [], ◌∷◌, length, Option, None, Some, refl, sym, ◌∙◌, ap, subst, arith, ◌⊎◌, inl, inr, ⊎_elim}
 use Rattle.std.specs.Prelude.{slice_get, slice_set, ◌/◌, ◌%◌}
+use Rattle.std.specs.List.{AllByRecursion}
 use Rattle.std.proofs.lemmas.List.{length-set}
 use Rattle.std.proofs.lemmas.Option.{slice_get_within}
 use Rattle.std.proofs.lemmas.Nat.{div-mul-add, mod-mul-add}
@@ -33,6 +34,17 @@ same_or zero zero = inl refl
 same_or zero (suc j) = inr (λ e. cc)
 same_or (suc i) zero = inr (λ e. cc)
 same_or (suc i) (suc j) = ⊎_elim (λ e. inl (ap suc e)) (λ n. inr (λ e. n (omega (arith, e)))) (same_or i j)
+
+-- within the list something stands at the place, and what holds of all holds of that
+pub stands : {X : Type 0} (xs : List X) (i : ℕ) → i < length xs → (x : X) × (slice_get xs i ≡ Some x)
+stands [] i h = absurd (omega arith)
+stands (x ∷ xs) zero h = (x, refl)
+stands (x ∷ xs) (suc i) h = let k : i < length xs = omega arith in stands xs i k
+
+pub all_at : {X : Type 0} (P : X → Type 0) (xs : List X) (i : ℕ) (x : X) → AllByRecursion P xs → slice_get xs i ≡ Some x → P x
+all_at P [] i x all at = absurd (cc)
+all_at P (y ∷ xs) zero x all at = let e : y ≡ x = (cc) in subst P e all.0
+all_at P (y ∷ xs) (suc i) x all at = all_at P xs i x all.1 at
 
 -- one host, its node and its device change
 module _ {H X : Type 0} (Is : ℕ → H → X → Device → Type 0) (hosts : List H) (nodes : List X) (devices : List Device) (are : AreAt Is hosts nodes devices) where

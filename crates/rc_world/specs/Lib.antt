@@ -7,3 +7,4 @@ pub mod Mail
 pub mod Worlds
 pub mod Words
 pub mod Turns
+pub mod Acted

@@ -1,18 +1,29 @@
 -- What an event makes of a session, but for the count of its text.
-use Rattle.std.specs.Prelude.{◌≡◌, ℕ, ◌+◌, ◌&&◌, nat_lt, nat_le, List, length, Option, Some, None, if◌then◌else◌}
+use Rattle.std.specs.Prelude.{◌≡◌, ℕ, ◌+◌, ◌&&◌, nat_lt, nat_le, List, [], length, Option, Some, None, if◌then◌else◌}
+use Rattle.rc_ids.specs.Tables.{maybe}
 use Rattle.rc_report.specs.declared.line.Line.{Line}
 use Rattle.rc_report.specs.declared.fault.Which.{Which}
 use Rattle.rc_report.specs.declared.fault.Which.TheVariants.{Transactions, Events, Messages, MessageBytes}
 use Rattle.rc_runs.specs.declared.event.Event.{Event}
 use Rattle.rc_protocol.specs.Messages.{Posts}
-use Rattle.rc_runs.specs.World.{World, Parties, actor, after_begin, at_deed, with_parties, posted, envelopes, bytes_of, course_deed, parties_after, sends_of, step, printed}
+use Rattle.rc_runs.specs.World.{World, Parties, Deed, deed, restart_lines, actor, after_begin, at_deed, with_parties, posted, envelopes, bytes_of, course_deed, parties_after, sends_of, step, printed}
 use Rattle.rc_runs.specs.Refusals.{wrong, limit, worn_out, begins, most_transactions, most_events, most_messages, most_message_bytes}
-use Rattle.rc_runs.specs.Devices.{Device}
-use Rattle.rc_runs.specs.Session.{Session, disk_change, with_change, with_world}
+use Rattle.rc_runs.specs.Devices.{Device, appended}
+use Rattle.rc_runs.specs.Session.{Session, DiskChange, device_of, no_change, append_of, append_change, disk_change, with_change, with_world}
 
 -- the session with these disks
 abbrev pub with_disks : Session → List Device → List Device → Session
 with_disks z coords shards = record { world = z.world; coords = coords; shards = shards; text = z.text }
+
+-- what the deed asks of a disk
+abbrev pub deed_change : Session → Deed → DiskChange
+deed_change z dd = maybe (append_of dd) no_change (λ a. append_change a.0 (appended (device_of z a.0) a.1))
+
+-- the event is one in which a party does a deed
+pub record IsDone (z : Session) (e : Event) : Type 0 where
+  pub change : disk_change z e ≡ deed_change z (deed z.world.parties z.world.sent e)
+  pub begins : after_begin z.world.parties e ≡ z.world.parties
+  pub starts : restart_lines e ≡ []
 
 -- parties and disks did what the event asks of them, this was sent, and this printed
 pub record EventActed (z : Session) (e : Event) (p : Parties) (coords shards : List Device) (out : Posts) (own : List Line) : Type 0 where

@@ -3,6 +3,7 @@
 
 mod fault;
 mod mail;
+mod shards;
 mod turns;
 mod world;
 

@@ -1,0 +1,12 @@
+pub mod Lists
+pub mod Ranges
+pub mod Bodies
+pub mod Pages
+pub mod Sends
+pub mod ShardStates
+pub mod Shards
+pub mod CoordStates
+pub mod Coordinators
+pub mod Slots
+pub mod Clients
+pub mod Worlds

@@ -1,0 +1,31 @@
+use Rattle.std.proofs.Common.{◌≡◌, ℕ, ◌<◌, length, Some, refl, sym, subst, ◌∙◌}
+use Rattle.std.specs.Prelude.{slice_get}
+use Rattle.std.proofs.lemmas.Option.{slice_get_read}
+use Rattle.rc_protocol.specs.Nodes.{shard_index}
+use Rattle.rc_host.specs.Causes.{cause_of}
+use Rattle.rc_host.specs.Standing.{shard_standing}
+use Rattle.rc_world.specs.Places.{shard_name}
+use Rattle.rc_world.specs.Hosts.{run_at}
+use Rattle.rc_world.proofs.ShardTurns as turns
+use Rattle.rc_world.proofs.ShardTurns.{name_is, acts_named, logs_spelled}
+use Rattle.rc_world.proofs.shards.shard_acts.Goals as goal
+
+pub returns-clause-ok : goal.returns-clause-ok
+returns-clause-ok g c = λ r z e dc shard cluster layout grammar node there spot are done is_deed has left told.
+    let hosts = c.args.shards.now.items in
+    let h = c.index_mut.result.now in
+    let new = c.turn.new.host in
+    let own = c.turn.new.lines in
+    let place = shard_index r.cluster dc shard in
+    let name = name_is r.cluster dc shard there in
+    let within : place < length hosts = subst (λ (i : ℕ). i < length hosts) spot c.requires.within in
+    let at : slice_get hosts place ≡ Some h = subst (λ (i : ℕ). slice_get hosts i ≡ Some h) spot (slice_get_read hosts (length hosts) c.args.place h refl c.requires.within c.index_mut.ensures.value) in
+    let cause = cause_of c.args.cause.now in
+    let x = turns.x _ r hosts z are layout dc shard there name within cause e done is_deed h new at own in
+    let device = turns.device_there _ r hosts z are layout dc shard there name within cause e done is_deed h new at own in
+    let is = turns.host _ r hosts z are layout dc shard there name within cause e done is_deed h new at own in
+    let spelled = logs_spelled _ r hosts z are layout dc shard there name within cause e done is_deed h new at own c.shards_speak.ensures grammar has in
+    let told_here = turns.told_here _ r hosts z are layout dc shard there name within cause e done is_deed h new at own c.args.place spot told in
+    acts_named _ r hosts z are layout dc shard there name within cause e done is_deed h new at own c.turn.result c.args.place c.args.node.now spot node
+    (λ up. c.turn.ensures.ok (run_at r (shard_name r.cluster place)) (shard_standing x) device.0 (name ∙ sym node) up is.host (left place device.0 device.1) spelled told_here)
+    c.turn.ensures.idle

@@ -1,0 +1,73 @@
+// Shard servers at their places.
+ghost use Rattle.std.specs.Prelude.{◌≡◌, ◌*◌, ◌<◌, [], ℕ, List, true, false, length, IfOk, IfErr, IfSome};
+ghost use Rattle.rc_protocol.specs.Nodes.{shard_index};
+ghost use Rattle.rc_protocol.specs.Acts.{shard_act};
+ghost use Rattle.rc_runs.specs.declared.event.Event.{Event as AnyEvent};
+ghost use Rattle.rc_runs.specs.Session.{Session};
+ghost use Rattle.rc_runs.specs.World.{deed, shard_does, is_shard_of as is_of_world};
+ghost use Rattle.rc_ids.specs.declared.names.NodeId.TheVariants.{Shard as ShardServer};
+ghost use Rattle.rc_host.specs.AnyNode.{shard_seen};
+ghost use Rattle.rc_host.specs.Causes.{cause_of};
+ghost use Rattle.rc_host.specs.Hosts.{IfUp, sight};
+ghost use Rattle.rc_grammar.specs.Acts.{HasNodeCause};
+ghost use Rattle.rc_grammar.specs.Worlds.{HasWorld};
+ghost use Rattle.rc_world.specs.Places.{shard_name, AreAt, AllAt};
+ghost use Rattle.rc_world.specs.Hosts.{Runs, IsShard, ShardsAreTold, HaveReadsLeft};
+ghost use Rattle.rc_world.specs.Steps.{IsDone};
+ghost use Rattle.rc_world.specs.Acted.{ShardsActed};
+
+use crate::WorldFault;
+use crate::turns::turn;
+use rc_disk::Disk;
+use rc_grammar::shards_speak;
+use rc_host::{Cause, Host};
+use rc_ids::{Cluster, DcId, NodeId, Party, ShardId};
+use rc_locks::Locks;
+use rc_log::{Journal, Log};
+use rc_msg::Outbox;
+use rc_report::Lines;
+use rc_shard::Shard;
+use std::alloc::Global;
+
+/// A shard server on its host.
+pub(crate) type ShardHost<D> = Host<Shard<Log<D>, Locks>, Log<D>, D>;
+
+/// Whether the shard server is one of the world.
+fn is_shard_of(cluster: &Cluster, dc: DcId, shard: ShardId) -> bool
+    ensures { result ≡ is_of_world cluster.now dc shard }
+{
+    dc.0 <= cluster.dcs() && shard.0 <= cluster.shards()
+}
+
+/// The place of a shard server.
+fn place_of(cluster: &Cluster, dc: DcId, shard: ShardId) -> usize
+    requires { is_of_world cluster.now dc shard ≡ true }
+    ensures place { result ≡ shard_index cluster.now dc shard }
+    ensures within { result < cluster.now.dcs * cluster.now.shards }
+{
+    (dc.0 as usize - 1) * cluster.shards() as usize + (shard.0 as usize - 1)
+}
+
+/// A shard server, if it is one of the world and up, does what moves it: what it sends.
+pub(crate) fn shard_acts<D: Disk>(
+    alloc: Global,
+    cluster: &Cluster,
+    shards: &mut Vec<ShardHost<D>>,
+    place: usize,
+    node: &NodeId,
+    cause: &Cause<'_>,
+    lines: &mut Lines,
+) -> Result<Outbox, WorldFault>
+    requires up { AllAt (λ _ h. IfUp h (λ n. n.stopped ≡ false)) shards.old.items }
+    requires within { place < length shards.old.items }
+    requires lines { lines.old ≡ [] }
+    ensures up { AllAt (λ _ h. IfUp h (λ n. n.stopped ≡ false)) shards.new.items }
+    ensures count { length shards.new.items ≡ length shards.old.items }
+    ensures ok { (r : Runs) (z : Session) (e : AnyEvent) (dc shard : ℕ) → r.cluster ≡ cluster.now → z.world.parties.layout ≡ r.cluster → HasWorld z.world → node.now ≡ ShardServer dc shard → is_of_world r.cluster dc shard ≡ true → place ≡ shard_index r.cluster dc shard
+        → AreAt (IsShard (sight shard_seen ⟦<Log<D> as Journal>⟧.state D.told D.content D.power) r) shards.old.items z.world.parties.shards z.shards → IsDone z e → deed z.world.parties z.world.sent e ≡ shard_does z.world.parties dc shard (cause_of cause.now)
+        → HasNodeCause (cause_of cause.now) → HaveReadsLeft r (shard_name r.cluster) z.shards → ShardsAreTold (sight shard_seen ⟦<Log<D> as Journal>⟧.state D.told D.content D.power) r shards.new.items
+        → IfOk result (λ out. ShardsActed (sight shard_seen ⟦<Log<D> as Journal>⟧.state D.told D.content D.power) r z e node.now shards.new.items out lines.new) }
+{
+    shards_speak();
+    turn(alloc, &mut shards[place], node, cause, lines)
+}
