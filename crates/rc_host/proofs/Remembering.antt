@@ -1,5 +1,5 @@
 -- What a disk told before an act is told still after it.
-use Rattle.std.proofs.Common.{◌≡◌, ℕ, Bool, true, false, ◌+◌, ◌-◌, ◌^◌, ◌≤◌, ◌<◌, List, Option, Some, None, option_map, IfSome, sym, ap, ◌∙◌, subst, arith}
+use Rattle.std.proofs.Common.{◌≡◌, ℕ, Bool, true, false, ◌+◌, ◌-◌, ◌^◌, ◌≤◌, ◌<◌, List, [], Option, Some, None, option_map, IfSome, sym, ap, ◌∙◌, subst, arith, append-nil}
 use Rattle.rc_disk.specs.declared.power.Cause.{Cause}
 use Rattle.rc_disk.specs.Calls.{Told, Numbers, Reads}
 use Rattle.rc_log.specs.Append.{append_calls, all_done, stopped_at, stopped_by, numbers_of}
@@ -15,7 +15,12 @@ use Rattle.rc_devices.specs.Disks.{AreKept, ReadsAreKept, IsKept}
 use Rattle.rc_devices.specs.Laws.{IsTold}
 use Rattle.rc_devices.proofs.Appends.{some_inj, stopped_reads}
 use Rattle.rc_devices.proofs.Staying.{calls_stay, fault_stays}
-use Rattle.rc_host.specs.AnyNode.{AnyNode, AnyAct}
+use Rattle.rc_runs.specs.Devices.{Device}
+use Rattle.rc_host.specs.AnyNode.{AnyNode, AnyAct, NodeDurable}
+use Rattle.rc_host.specs.Standing.{Standing}
+use Rattle.rc_host.specs.declared.host.Host.{Host}
+use Rattle.rc_host.specs.declared.host.Host.TheVariants.{Up, Opened, Down, Lent}
+use Rattle.rc_host.specs.Hosts.{Sight, Run, IsHost, CanRead, HasReadsLeft}
 
 -- over disks that tell what they tell, if they do
 abbrev Keeps : Option Told → Told → Type 0
@@ -92,3 +97,20 @@ module _ {J : Type 0} (state : J → State) (may_leave : J → List ℕ → Type
       let fails : FailsAt (may_leave new.journal) (state old.journal) (state new.journal) act.logs = subst (λ (f : NodeFault). Stays f (may_leave new.journal) (state old.journal) (state new.journal) act) fault_is refused.journal in
       failed_log_stays (may_leave new.journal) (state old.journal) (state new.journal) ended act.logs fails left
       (subst (λ (j : J). HasReads (state j).told → IsTold (state j) ended) journal_is told)
+
+-- HOSTS
+-- a host of a node of the run may have its log opened where the run's device has reads left
+pub can_read : {N J D : Type 0} (s : Sight N J D) (gives : List (List ℕ) → NodeDurable → Type 0) (run : Run) (host : Host N J D) (x : Standing) (d : Device) → IsHost s gives run host x d → HasReadsLeft run d → CanRead s host
+can_read s gives run (Up node) x d is left =
+    let device = is.log.device in
+    subst HasReads (sym device.tells) (subst (λ (n : ℕ). n < 2 ^ 64 - 1) (sym device.disk.reads.counted) left)
+can_read s gives run (Opened journal blobs) x d is left = tt
+can_read s gives run (Down disk) x d is left = tt
+can_read s gives run Lent x d is left = tt
+
+-- what a disk tells is told then
+pub told_then : (t : Told) → IsKept t t
+told_then t = record {
+  calls = record { since = []; all = sym (append-nil t.numbers.failed); above = tt };
+  reads = record { since = []; all = sym (append-nil t.reads.failed); above = tt };
+}

@@ -1,7 +1,8 @@
 -- A node that is up handles something: its host after that.
-use Rattle.std.proofs.Common.{◌≡◌, ℕ, ◌-◌, ◌<◌, ◌^◌, List, Bool, true, false, Option, Some, None, option_map, IfSome, Result, Ok, Err, IfOk, IfErr, length, refl, sym, ap, ◌∙◌, subst}
+use Rattle.std.proofs.Common.{◌≡◌, ℕ, ◌-◌, ◌<◌, ◌^◌, List, Bool, true, false, Option, Some, None, option_map, IfSome, Result, Ok, Err, IfOk, IfErr, length, refl, sym, ap, ◌∙◌, subst, ◌+◌, add-zero}
 use Rattle.std.specs.Prelude.{nat_lt}
 use Rattle.rc_ids.specs.Cluster.{Layout}
+use Rattle.rc_ids.specs.Tables.{maybe}
 use Rattle.rc_ids.specs.declared.names.NodeId.{NodeId}
 use Rattle.rc_ids.specs.declared.names.NodeId.TheVariants.{Coord, Shard as ShardServer}
 use Rattle.rc_disk.specs.Calls.{Told, Reads, read_bytes}
@@ -31,9 +32,15 @@ use Rattle.rc_host.specs.declared.host.Course.{Course}
 use Rattle.rc_host.specs.declared.host.Course.TheVariants.{Goes, Stops}
 use Rattle.rc_host.specs.declared.host.HostFault.{HostFault}
 use Rattle.rc_host.specs.declared.host.HostFault.TheVariants.{NoMemory, BallotsSpent, DiskFailed, Damaged, Lost}
-use Rattle.rc_host.specs.Hosts.{Sight, Run, IsHost, IsUp, HasLog, HasReadsLeft, AreLogged, IsLogged, Went, Stayed, StopsAt, OpensAgain, StaysShut, StopsOn}
+use Rattle.rc_host.specs.Hosts.{is_up, CountsOn, Sight, Run, IsHost, IsUp, HasLog, HasReadsLeft, AreLogged, IsLogged, Went, Stayed, StopsAt, OpensAgain, StaysShut, StopsOn}
 use Rattle.rc_host.proofs.Acting.{Gone, no_record, one_record, comes_some}
 use Rattle.rc_host.proofs.Stopping.{stops_failed, stops_full, held_after, counted_after}
+
+pub counts_down : {N J D : Type 0} (s : Sight N J D) (old new : Host N J D) (act : AnyAct) → is_up new ≡ false → CountsOn s old new act
+counts_down s old (Up node) act down = cc
+counts_down s old (Opened journal blobs) act down = tt
+counts_down s old (Down disk) act down = tt
+counts_down s old Lent act down = tt
 
 -- an act without a record keeps the durable state
 unlogged : (c : Layout) (node : NodeId) (s : NodeDurable) (v : NodeVolatile) (cause : NodeCause) → (node_act c node s v cause).logs ≡ None → (node_act c node s v cause).durable ≡ s
@@ -84,6 +91,16 @@ module _ {N J D : Type 0} (s : Sight N J D) (gives : List (List ℕ) → NodeDur
 
   abbrev old : State
   old = s.state (s.seen node).journal
+
+  -- the record of the act is counted
+  counted_on : (after : State) (o : Option Record) → Logs old after o → after.count ≡ old.count + maybe o 0 (λ _. 1)
+  counted_on after None logs = ap (λ (z : State). z.count) logs ∙ sym (add-zero old.count)
+  counted_on after (Some r) logs = logs.adds.counts_it
+
+  pub counts_on : (new : N) (before after : Outbox) → HasActed s.state (s.seen node) (s.seen new) before after (act_of (s.seen node) cause) → CountsOn s (Up node) (Up new) act
+  counts_on new before after acted =
+      let done = subst (λ (a : AnyAct). HasActed s.state (s.seen node) (s.seen new) before after a) act_is acted in
+      counted_on (s.state (s.seen new).journal) act.logs done.logs
 
   -- the state that a stop leaves is of the node's kind
   same_kind : (r : Record) (kept : Bool) → IsLogged gives x act r → new_volatile x.durable ≡ new_volatile (after_stop x act kept).durable

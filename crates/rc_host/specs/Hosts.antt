@@ -1,6 +1,7 @@
 -- Hosts of nodes of a run, on disks that tell their calls.
 use Rattle.std.specs.Prelude.{◌≡◌, ◌<◌, ◌+◌, ◌-◌, ◌^◌, ◌++◌, ℕ, nat_lt, Bool, true, false, List, [], ◌∷◌, length, Option, None, Some, Ok, IfSome}
 use Rattle.rc_ids.specs.Cluster.{Layout}
+use Rattle.rc_ids.specs.Tables.{maybe}
 use Rattle.rc_ids.specs.declared.names.NodeId.{NodeId}
 use Rattle.rc_disk.specs.declared.power.Power.{Power}
 use Rattle.rc_disk.specs.declared.power.Power.TheVariants.{On}
@@ -149,6 +150,16 @@ pub record Went {N J D : Type 0} (s : Sight N J D) (gives : List (List ℕ) → 
 pub record StopsOn (d : Device) (act : AnyAct) : Type 0 where
   pub kept : Bool
   pub comes : course_on d act ≡ StopsInside kept
+
+-- how many records a node that is up counts in its journal
+abbrev pub count_in : {N J D : Type 0} → Sight N J D → Host N J D → ℕ
+count_in s (Up node) = (s.state (s.seen node).journal).count
+count_in s _ = 0
+
+-- a node that goes on counts the record of its act, if it made one
+abbrev pub CountsOn : {N J D : Type 0} → Sight N J D → Host N J D → Host N J D → AnyAct → Type 0
+CountsOn s old (Up node) act = count_in s (Up node) ≡ count_in s old + maybe act.logs 0 (λ _. 1)
+CountsOn s old new act = Unit {0}
 
 -- why an act was not done, and what that leaves. A host that is lost stopped inside it, and is good for nothing but its disk
 abbrev pub Stayed : {N J D : Type 0} → Sight N J D → (List (List ℕ) → NodeDurable → Type 0) → Run → HostFault → Host N J D → Outbox → Outbox → Standing → Device → AnyAct → Type 0

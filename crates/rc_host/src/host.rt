@@ -10,7 +10,7 @@ ghost use Rattle.rc_host.specs.Causes.{cause_of};
 ghost use Rattle.rc_host.specs.Standing.{Standing};
 ghost use Rattle.rc_host.specs.declared.host.Host.TheVariants.{Up};
 ghost use Rattle.rc_host.specs.declared.host.Course.TheVariants.{Goes};
-ghost use Rattle.rc_host.specs.Hosts.{Run, sight, is_up, IfUp, IsHost, IsUp, CanRead, IsToldBy, HasReadsLeft, Went, Stayed, StopsAt, OpensAgain, StaysShut};
+ghost use Rattle.rc_host.specs.Hosts.{CountsOn, Run, sight, is_up, IfUp, IsHost, IsUp, CanRead, IsToldBy, HasReadsLeft, Went, Stayed, StopsAt, OpensAgain, StaysShut};
 
 use crate::{Cause, Node};
 use rc_disk::Disk;
@@ -109,6 +109,8 @@ fn turn<D: Disk, N: Node<Log<D>>>(
         → let act = node_act run.cluster run.node x.durable x.volatile (cause_of cause.now) in IfSome act.logs HasRecord → IsToldBy (sight N.seen ⟦<Log<D> as Journal>⟧.state D.told D.content D.power) result.0 run.ended
         → IfErr result.1 (λ fault. Stayed (sight N.seen ⟦<Log<D> as Journal>⟧.state D.told D.content D.power) (N.back run.node run.cluster) run fault result.0 out.old out.new x d act) }
     ensures up { IfUp result.0 (λ after. (N.seen after).stopped ≡ false) }
+    ensures counts { (run : Run) (x : Standing) (d : Device) → IsUp (sight N.seen ⟦<Log<D> as Journal>⟧.state D.told D.content D.power) (N.back run.node run.cluster) run node x d
+        → IfOk result.1 (λ course. CountsOn (sight N.seen ⟦<Log<D> as Journal>⟧.state D.told D.content D.power) (Up node) result.0 (node_act run.cluster run.node x.durable x.volatile (cause_of cause.now))) }
     ensures grew { (ended : Told) → CanRead (sight N.seen ⟦<Log<D> as Journal>⟧.state D.told D.content D.power) (Up node) → IsToldBy (sight N.seen ⟦<Log<D> as Journal>⟧.state D.told D.content D.power) result.0 ended → IsToldBy (sight N.seen ⟦<Log<D> as Journal>⟧.state D.told D.content D.power) (Up node) ended }
 {
     N::logged_acts();
@@ -140,6 +142,8 @@ pub fn act<D: Disk, N: Node<Log<D>>>(
         → let act = node_act run.cluster run.node x.durable x.volatile (cause_of cause.now) in IfSome act.logs HasRecord → IsToldBy (sight N.seen ⟦<Log<D> as Journal>⟧.state D.told D.content D.power) host.new run.ended
         → IfErr result (λ fault. Stayed (sight N.seen ⟦<Log<D> as Journal>⟧.state D.told D.content D.power) (N.back run.node run.cluster) run fault host.new out.old out.new x d act) }
     ensures grew { (ended : Told) → CanRead (sight N.seen ⟦<Log<D> as Journal>⟧.state D.told D.content D.power) host.old → IsToldBy (sight N.seen ⟦<Log<D> as Journal>⟧.state D.told D.content D.power) host.new ended → IsToldBy (sight N.seen ⟦<Log<D> as Journal>⟧.state D.told D.content D.power) host.old ended }
+    ensures counts { (run : Run) (x : Standing) (d : Device) → is_up host.old ≡ true → IsHost (sight N.seen ⟦<Log<D> as Journal>⟧.state D.told D.content D.power) (N.back run.node run.cluster) run host.old x d
+        → IfOk result (λ course. CountsOn (sight N.seen ⟦<Log<D> as Journal>⟧.state D.told D.content D.power) host.old host.new (node_act run.cluster run.node x.durable x.volatile (cause_of cause.now))) }
     ensures idle { is_up host.old ≡ false → (host.new ≡ host.old) × (out.new ≡ out.old) × (result ≡ Ok Goes) }
 {
     match mem::replace(host, Host::Lent) {
