@@ -1,5 +1,5 @@
 -- A node that is up handles something: its host after that.
-use Rattle.std.proofs.Common.{◌≡◌, ℕ, ◌-◌, ◌<◌, ◌^◌, List, Bool, true, false, Option, Some, None, option_map, IfSome, Result, Ok, Err, IfOk, IfErr, length, refl, sym, ap, ◌∙◌, subst, ◌+◌, add-zero}
+use Rattle.std.proofs.Common.{◌≡◌, ℕ, ◌-◌, ◌<◌, ◌^◌, List, [], ◌∷◌, ◌++◌, Bool, true, false, Option, Some, None, option_map, IfSome, Result, Ok, Err, IfOk, IfErr, length, refl, sym, ap, ◌∙◌, subst, ◌+◌, add-zero}
 use Rattle.std.specs.Prelude.{nat_lt}
 use Rattle.rc_ids.specs.Cluster.{Layout}
 use Rattle.rc_ids.specs.Tables.{maybe}
@@ -32,7 +32,7 @@ use Rattle.rc_host.specs.declared.host.Course.{Course}
 use Rattle.rc_host.specs.declared.host.Course.TheVariants.{Goes, Stops}
 use Rattle.rc_host.specs.declared.host.HostFault.{HostFault}
 use Rattle.rc_host.specs.declared.host.HostFault.TheVariants.{NoMemory, BallotsSpent, DiskFailed, Damaged, Lost}
-use Rattle.rc_host.specs.Hosts.{is_up, CountsOn, Sight, Run, IsHost, IsUp, HasLog, HasReadsLeft, AreLogged, IsLogged, Went, Stayed, StopsAt, OpensAgain, StaysShut, StopsOn}
+use Rattle.rc_host.specs.Hosts.{is_up, CountsOn, KeptOn, Sight, Run, IsHost, IsUp, HasLog, HasReadsLeft, AreLogged, IsLogged, Went, Stayed, StopsAt, OpensAgain, StaysShut, StopsOn}
 use Rattle.rc_host.proofs.Acting.{Gone, no_record, one_record, comes_some}
 use Rattle.rc_host.proofs.Stopping.{stops_failed, stops_full, held_after, counted_after}
 
@@ -87,6 +87,7 @@ module _ {N J D : Type 0} (s : Sight N J D) (gives : List (List ℕ) → NodeDur
           log = went.log;
         };
         sends = done.sends;
+        kept = tt;
       }
 
   abbrev old : State
@@ -106,6 +107,10 @@ module _ {N J D : Type 0} (s : Sight N J D) (gives : List (List ℕ) → NodeDur
   same_kind : (r : Record) (kept : Bool) → IsLogged gives x act r → new_volatile x.durable ≡ new_volatile (after_stop x act kept).durable
   same_kind r true logged = sym logged.kind
   same_kind r false logged = refl
+
+  kept_so : (kept : Bool) (journal : J) (now blobs : List (List ℕ)) (r : Record) → act.logs ≡ Some r → now ≡ with_or_without kept blobs (record_bytes r) → KeptOn {N = N} {D = D} (Opened journal now) act (Stops kept)
+  kept_so false journal now blobs r some same = tt
+  kept_so true journal now blobs r some same = subst (λ (o : Option Record). IfSome o (λ q. (front : List (List ℕ)) × (now ≡ front ++ record_bytes q ∷ []))) (sym some) (blobs, same)
 
   -- a log that is open again, behind a stop inside the act
   pub went_stopped : (host : Host N J D) (course : Course) (log : State) (r : Record) (kept : Bool) (dv : Device) (before after : Outbox) → act.logs ≡ Some r → IsLogged gives x act r → log.count ≡ length is.blobs
@@ -140,6 +145,7 @@ module _ {N J D : Type 0} (s : Sight N J D) (gives : List (List ℕ) → NodeDur
           is_open = refl;
         };
         sends = same;
+        kept = kept_so kept journal now is.blobs r some again.same;
       })
 
   -- what holds of each way that the log may be opened again holds of how the event went

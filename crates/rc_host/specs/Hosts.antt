@@ -137,6 +137,11 @@ abbrev pub posts_after : Outbox → AnyAct → Course → Outbox
 posts_after out act Goes = posted_all out act.sends
 posts_after out act (Stops kept) = out
 
+-- where the node stopped and its record was kept, that is the last of its log
+abbrev pub KeptOn : {N J D : Type 0} → Host N J D → AnyAct → Course → Type 0
+KeptOn (Opened journal blobs) act (Stops true) = IfSome act.logs (λ r. (front : List (List ℕ)) × (blobs ≡ front ++ record_bytes r ∷ []))
+KeptOn new act course = Unit {0}
+
 -- the act of a node that was up: its course is the device's, its host is that of the node after it, and its messages were posted unless it stopped
 pub record Went {N J D : Type 0} (s : Sight N J D) (gives : List (List ℕ) → NodeDurable → Type 0) (run : Run) (course : Course) (new : Host N J D) (before after : Outbox) (x : Standing) (d : Device) (act : AnyAct) : Type 0 where
   pub left : act.spent ≡ false
@@ -145,6 +150,7 @@ pub record Went {N J D : Type 0} (s : Sight N J D) (gives : List (List ℕ) → 
   pub device_is : device_after d act ≡ Some device
   pub host : IsHost s gives run new (standing_after x act course) device
   pub sends : after ≡ posts_after before act course
+  pub kept : KeptOn new act course
 
 -- the node stops inside the act
 pub record StopsOn (d : Device) (act : AnyAct) : Type 0 where

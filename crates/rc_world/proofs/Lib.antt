@@ -4,7 +4,7 @@ pub mod CoordActs
 pub mod ShardActs
 pub mod Happenings
 pub mod ClientActs
-pub mod Votes
+pub mod VoteRows
 pub mod CoordHosts
 pub mod ShardHosts
 pub mod MailFacts

@@ -1,7 +1,9 @@
 -- Lists of which one entry is set, and what stands at their places.
-use Rattle.std.proofs.Common.{◌≡◌, ℕ, zero, suc, ◌<◌, ◌≤◌, ◌+◌, ◌-◌, ◌*◌, List, [], ◌∷◌, length, Option, None, Some, refl, sym, ◌∙◌, ap, subst, arith, ◌⊎◌, inl, inr, ⊎_elim}
+use Rattle.std.proofs.Common.{◌≡◌, ℕ, zero, suc, ◌<◌, ◌≤◌, ◌+◌, ◌-◌, ◌*◌, true, List, [], ◌∷◌, length, Option, None, Some, refl, sym, ◌∙◌, ap, subst, arith, ◌⊎◌, inl, inr, ⊎_elim}
 use Rattle.std.specs.Prelude.{slice_get, slice_set, ◌/◌, ◌%◌}
 use Rattle.std.specs.List.{AllByRecursion}
+use Rattle.std.proofs.Math.Nat.{mul-le-mul_left}
+use Rattle.std.proofs.lemmas.Bool.Decides.{nat_tests}
 use Rattle.std.proofs.lemmas.List.{length-set}
 use Rattle.std.proofs.lemmas.Option.{slice_get_within}
 use Rattle.std.proofs.lemmas.Nat.{div-mul-add, mod-mul-add}
@@ -9,6 +11,7 @@ use Rattle.rc_ids.specs.Cluster.{Layout}
 use Rattle.rc_ids.specs.declared.names.NodeId.{NodeId}
 use Rattle.rc_ids.specs.declared.names.NodeId.TheVariants.{Coord, Shard as ShardServer}
 use Rattle.rc_protocol.specs.Nodes.{coord_index, shard_index}
+use Rattle.rc_runs.specs.World.{is_shard_of}
 use Rattle.rc_runs.specs.Devices.{Device}
 use Rattle.rc_world.specs.Places.{coord_name, shard_name, AreAt, AllAt}
 
@@ -89,3 +92,37 @@ shard_named c d sh low_d low_sh high =
     ap (λ (n : ℕ). ShardServer (suc n) (suc (shard_index c d sh % c.shards))) (div-mul-add (d - 1) c.shards (sh - 1) below)
     ∙ ap (λ (n : ℕ). ShardServer (suc (d - 1)) (suc n)) (mod-mul-add (d - 1) c.shards (sh - 1) below)
     ∙ ap (λ (n : ℕ). ShardServer n (suc (sh - 1))) dc ∙ ap (ShardServer d) shard
+
+pub within_all : (d dcs s r : ℕ) → d < dcs → r < s → d * s + r < dcs * s
+within_all d dcs s r below small =
+    let next : suc d ≤ dcs = omega (arith, below) in
+    let k : s * suc d ≤ s * dcs = mul-le-mul_left s next in
+    let left : s * suc d ≡ d * s + s = grind (arith) in
+    let right : s * dcs ≡ dcs * s = grind (arith) in
+    omega (arith, k, left, right, small)
+
+-- who is of the world
+pub low_dc : (c : Layout) (d sh : ℕ) → is_shard_of c d sh ≡ true → 1 ≤ d
+low_dc c d sh there = grind (arith, nat_tests)
+
+pub high_dc : (c : Layout) (d sh : ℕ) → is_shard_of c d sh ≡ true → d ≤ c.dcs
+high_dc c d sh there = grind (arith, nat_tests)
+
+pub low_shard : (c : Layout) (d sh : ℕ) → is_shard_of c d sh ≡ true → 1 ≤ sh
+low_shard c d sh there = grind (arith, nat_tests)
+
+pub high_shard : (c : Layout) (d sh : ℕ) → is_shard_of c d sh ≡ true → sh ≤ c.shards
+high_shard c d sh there = grind (arith, nat_tests)
+
+pub name_is : (c : Layout) (d sh : ℕ) → is_shard_of c d sh ≡ true → shard_name c (shard_index c d sh) ≡ ShardServer d sh
+name_is c d sh there = shard_named c d sh (low_dc c d sh there) (low_shard c d sh there) (high_shard c d sh there)
+
+pub place_within : (c : Layout) (d sh : ℕ) → is_shard_of c d sh ≡ true → shard_index c d sh < c.dcs * c.shards
+place_within c d sh there =
+    let low_d = low_dc c d sh there in
+    let high_d = high_dc c d sh there in
+    let low_s = low_shard c d sh there in
+    let high_s = high_shard c d sh there in
+    let dc : d - 1 < c.dcs = omega (arith, low_d, high_d) in
+    let shard : sh - 1 < c.shards = omega (arith, low_s, high_s) in
+    within_all (d - 1) c.dcs c.shards (sh - 1) dc shard

@@ -2,7 +2,6 @@
 use Rattle.std.proofs.Common.{◌≡◌, ℕ, ◌<◌, ◌≤◌, Bool, true, false, List, [], ◌∷◌, ◌++◌, length, Option, None, Some, IfSome, Result, Ok, Err, IfOk, IfErr, IsTrue, refl, sym, ◌∙◌, ap, subst, arith}
 use Rattle.std.specs.Prelude.{slice_get, slice_set, if◌then◌else◌, ◌&&◌}
 use Rattle.std.specs.List.{AllByRecursion}
-use Rattle.std.proofs.lemmas.Bool.Decides.{nat_tests}
 use Rattle.rc_ids.specs.Tables.{maybe}
 use Rattle.rc_ids.specs.Cluster.{Layout, IsLayout, is_dc, is_shard}
 use Rattle.rc_ids.specs.declared.names.NodeId.{NodeId}
@@ -36,7 +35,7 @@ use Rattle.rc_world.specs.Hosts.{Runs, run_at, IsShard, ShardsAreTold, HaveReads
 use Rattle.rc_world.specs.Steps.{EventActed, IsDone}
 use Rattle.rc_world.specs.Turns.{Turned, lines_of}
 use Rattle.rc_world.specs.Acted.{ShardsActed, with_shards}
-use Rattle.rc_world.proofs.Lists.{set_same, set_at, stands, all_at, shard_named}
+use Rattle.rc_world.proofs.Lists.{set_same, set_at, stands, all_at}
 use Rattle.rc_world.proofs.Courses.{course_for, lines_left, sends_left}
 use Rattle.rc_world.proofs.ClientActs.{idles}
 use Rattle.rc_world.proofs.ShardActs.{shard_left, shard_here}
@@ -46,18 +45,6 @@ split : (a b : Bool) → (a && b) ≡ true → IsTrue a × IsTrue b
 split true true is = (refl, refl)
 split true false is = cc
 split false b is = cc
-
-low_dc : (c : Layout) (d sh : ℕ) → is_shard_of c d sh ≡ true → 1 ≤ d
-low_dc c d sh there = grind (arith, nat_tests)
-
-low_shard : (c : Layout) (d sh : ℕ) → is_shard_of c d sh ≡ true → 1 ≤ sh
-low_shard c d sh there = grind (arith, nat_tests)
-
-high_shard : (c : Layout) (d sh : ℕ) → is_shard_of c d sh ≡ true → sh ≤ c.shards
-high_shard c d sh there = grind (arith, nat_tests)
-
-pub name_is : (c : Layout) (d sh : ℕ) → is_shard_of c d sh ≡ true → shard_name c (shard_index c d sh) ≡ ShardServer d sh
-name_is c d sh there = shard_named c d sh (low_dc c d sh there) (low_shard c d sh there) (high_shard c d sh there)
 
 -- a host is up where its node is
 pub up_is : {N J D : Type 0} (s : Sight N J D) (gives : List (List ℕ) → NodeDurable → Type 0) (run : Run) (h : Host N J D) (x : Standing) (d : Device) → IsHost s gives run h x d → x.up ≡ is_up h

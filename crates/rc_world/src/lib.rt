@@ -5,6 +5,7 @@ mod fault;
 mod mail;
 mod shards;
 mod turns;
+mod votes;
 mod world;
 
 pub use fault::WorldFault;

@@ -7,7 +7,7 @@ ghost use Rattle.rc_runs.specs.Devices.{Device};
 ghost use Rattle.rc_disk.specs.Calls.{Told};
 ghost use Rattle.rc_host.specs.AnyNode.{node_act};
 ghost use Rattle.rc_host.specs.Standing.{Standing};
-ghost use Rattle.rc_host.specs.Hosts.{Run, sight, is_up, IfUp, IsHost, IsToldBy, HasReadsLeft, CanRead};
+ghost use Rattle.rc_host.specs.Hosts.{CountsOn, Run, sight, is_up, IfUp, IsHost, IsToldBy, HasReadsLeft, CanRead};
 ghost use Rattle.rc_host.specs.Causes.{cause_of};
 ghost use Rattle.rc_world.specs.Turns.{Turned, TurnRefused, fault_of};
 
@@ -50,6 +50,8 @@ pub(crate) fn turn<D: Disk, N: Node<Log<D>>>(
     ensures err { (run : Run) (x : Standing) (d : Device) → run.node ≡ node.now → is_up host.old ≡ true → IsHost (sight N.seen ⟦<Log<D> as Journal>⟧.state D.told D.content D.power) (N.back run.node run.cluster) run host.old x d → HasReadsLeft run d
         → let act = node_act run.cluster run.node x.durable x.volatile (cause_of cause.now) in IfSome act.logs HasRecord → IsToldBy (sight N.seen ⟦<Log<D> as Journal>⟧.state D.told D.content D.power) host.new run.ended
         → IfErr result (λ fault. TurnRefused (sight N.seen ⟦<Log<D> as Journal>⟧.state D.told D.content D.power) (N.back run.node run.cluster) run fault host.new x d act) }
+    ensures counts { (run : Run) (x : Standing) (d : Device) → is_up host.old ≡ true → IsHost (sight N.seen ⟦<Log<D> as Journal>⟧.state D.told D.content D.power) (N.back run.node run.cluster) run host.old x d
+        → IfOk result (λ out. CountsOn (sight N.seen ⟦<Log<D> as Journal>⟧.state D.told D.content D.power) host.old host.new (node_act run.cluster run.node x.durable x.volatile (cause_of cause.now))) }
     ensures grew { (ended : Told) → CanRead (sight N.seen ⟦<Log<D> as Journal>⟧.state D.told D.content D.power) host.old → IsToldBy (sight N.seen ⟦<Log<D> as Journal>⟧.state D.told D.content D.power) host.new ended → IsToldBy (sight N.seen ⟦<Log<D> as Journal>⟧.state D.told D.content D.power) host.old ended }
     ensures idle { is_up host.old ≡ false → (host.new ≡ host.old) × (lines.new ≡ []) × IfOk result (λ out. out ≡ new_outbox (NodeParty node.now)) }
 {

@@ -7,7 +7,8 @@ use Rattle.rc_host.specs.Standing.{shard_standing}
 use Rattle.rc_world.specs.Places.{shard_name}
 use Rattle.rc_world.specs.Hosts.{run_at}
 use Rattle.rc_world.proofs.ShardTurns as turns
-use Rattle.rc_world.proofs.ShardTurns.{name_is, acts_named, logs_spelled}
+use Rattle.rc_world.proofs.Lists.{name_is}
+use Rattle.rc_world.proofs.ShardTurns.{acts_named, logs_spelled}
 use Rattle.rc_world.proofs.shards.shard_acts.Goals as goal
 
 pub returns-clause-ok : goal.returns-clause-ok
