@@ -11,3 +11,8 @@ pub mod MailFacts
 pub mod PostFacts
 pub mod Turning
 pub mod ShardTurns
+pub mod Refusing
+pub mod Answering
+pub mod Tabling
+pub mod Obeying
+pub mod Hearing

@@ -2,9 +2,11 @@
 pub mod Steps
 pub mod Votes
 pub mod Places
-pub mod Hosts
 pub mod Mail
-pub mod Worlds
-pub mod Words
+pub mod Clients
+pub mod OneClient
+pub mod Hosts
 pub mod Turns
 pub mod Acted
+pub mod Worlds
+pub mod Words

@@ -34,10 +34,11 @@ pub record EventActed (z : Session) (e : Event) (p : Parties) (coords shards : L
   pub whole : worn_out (course_deed z.world e (disk_change z e).course) ≡ None
 
 -- the limit that an event passes before anybody acts
+abbrev pub event_limit : ℕ → Option Which
+event_limit events = if nat_le most_events events then Some Events else None
+
 abbrev pub early_limit : World → Event → Option Which
-early_limit w e =
-    if begins e && nat_le most_transactions (length w.parties.clients) then Some Transactions
-    else (if nat_le most_events w.events then Some Events else None)
+early_limit w e = if begins e && nat_le most_transactions (length w.parties.clients) then Some Transactions else event_limit w.events
 
 -- the limit that these messages of the event would pass
 abbrev pub sent_limit : World → Event → Posts → Option Which

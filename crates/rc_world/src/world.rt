@@ -1,23 +1,40 @@
 // A world of nodes on their disks, clients and the network between them.
+ghost use Rattle.std.specs.Prelude.{◌≡◌, ◌<◌, [], Some, None, IfOk, IfErr, OnOk};
+ghost use Rattle.rc_runs.specs.declared.event.Event.TheVariants.{Begin};
+ghost use Rattle.rc_runs.specs.Session.{Session};
+ghost use Rattle.rc_runs.specs.World.{World as WorldState};
+ghost use Rattle.rc_world.specs.Words.{parts_of, views};
+ghost use Rattle.rc_world.specs.Hosts.{Runs};
+ghost use Rattle.rc_world.specs.Steps.{event_limit};
+ghost use Rattle.rc_world.specs.Worlds.{IsWorld, HasActed, KeepsCarried};
 
-ghost use Rattle.std.specs.Prelude.{◌≡◌};
-ghost use Rattle.rc_world.specs.Words.{parts_of};
-
+use crate::WorldFault;
+use crate::clients::Clients;
+use crate::shards::ShardHost;
 use rc_coord::Coord;
-use rc_disk::Farm;
+use rc_disk::{Disk, Farm};
 use rc_host::Host;
-use rc_ids::Cluster;
-use rc_locks::Locks;
-use rc_log::Log;
+use rc_ids::{Cluster, Party, Sends, TxId};
+use rc_log::{Journal, Log};
 use rc_net::Net;
-use rc_shard::Shard;
+use rc_report::{Which, Wrong};
 use std::alloc::Global;
 
-/// A coordinator on a farm's disk.
+/// A coordinator on its host.
 type CoordHost<D> = Host<Coord<Log<D>>, Log<D>, D>;
 
-/// A shard server on a farm's disk.
-type ShardHost<D> = Host<Shard<Log<D>, Locks>, Log<D>, D>;
+/// The most transactions that are begun in a run.
+const MOST_TRANSACTIONS: usize = 1024;
+
+/// The most events of a run.
+const MOST_EVENTS: u32 = 2_000_000;
+
+/// What a party sends in an event.
+#[derive(Drop)]
+pub(crate) struct Sending {
+    pub(crate) from: Party,
+    pub(crate) sends: Sends,
+}
 
 /// A world.
 #[derive(Drop)]
@@ -26,6 +43,7 @@ pub struct World<F: Farm> {
     cluster: Cluster,
     coords: Vec<CoordHost<F::D>>,
     shards: Vec<ShardHost<F::D>>,
+    clients: Clients,
     net: Net,
     events: u32,
     deliveries: u64,
@@ -37,5 +55,36 @@ impl<F: Farm> World<F> {
         ensures { result ≡ (parts_of self.now).deliveries }
     {
         self.deliveries
+    }
+
+    /// The limit of events, where one more would pass it.
+    fn event_limit(&self) -> Result<(), WorldFault>
+        ensures ok { OnOk result (event_limit (parts_of self.now).events ≡ None) }
+        ensures err { IfErr result (λ fault. (which : _) × (fault ≡ WorldFault.Limit which) × (event_limit (parts_of self.now).events ≡ Some which)) }
+    {
+        if self.events >= MOST_EVENTS {
+            return Err(WorldFault::Limit(Which::Events));
+        }
+        Ok(())
+    }
+
+    /// A transaction begins with a new client.
+    fn begin(&mut self, tx: TxId) -> Result<Sending, WorldFault>
+        ensures ok { (r : Runs) (z : Session) → IsWorld (views ⟦<Log<F::D> as Journal>⟧.state F.D.told F.D.content F.D.power) r (parts_of self.old) z
+            → IfOk result (λ s. HasActed (views ⟦<Log<F::D> as Journal>⟧.state F.D.told F.D.content F.D.power) r z (Begin tx) (parts_of self.new) s.from s.sends []) }
+        ensures carried { KeepsCarried (parts_of self.old) (parts_of self.new) }
+    {
+        if self.clients.is_begun(tx) {
+            return Err(WorldFault::Naming(Wrong::BegunTwice(tx)));
+        }
+        if self.clients.count() >= MOST_TRANSACTIONS {
+            return Err(WorldFault::Limit(Which::Transactions));
+        }
+        self.event_limit()?;
+        self.clients.begin(self.alloc, tx)?;
+        Ok(Sending {
+            from: Party::Client(tx),
+            sends: Sends::new(self.alloc),
+        })
     }
 }
