@@ -10,3 +10,5 @@ pub mod Coordinators
 pub mod Slots
 pub mod Clients
 pub mod Worlds
+pub mod Stored
+pub mod Sessions

@@ -25,7 +25,7 @@ use Rattle.rc_grammar.specs.Acts.{HasPosts, HasLogged, HasLog, HasNodeCause, Has
 use Rattle.rc_grammar.specs.Shards.{HasShardDurable, HasShardNode, ShardSpeaks}
 use Rattle.rc_grammar.specs.Coordinators.{HasCoordDurable, HasCoordNode, CoordSpeaks}
 use Rattle.rc_grammar.specs.Clients.{HasClient, ClientSpeaks}
-use Rattle.rc_grammar.specs.Worlds.{HasEvent, HasClientOf, HasParties, HasWorld}
+use Rattle.rc_grammar.specs.Worlds.{HasEvent, HasClientOf, HasParties, HasWorld, DeedSpeaks}
 use Rattle.rc_grammar.proofs.Lists.{on_cond, on_maybe, never, and_left, and_right, all_both, all_alike, all_get, all_set, all_map, all_put, all_found, all_replicate}
 use Rattle.rc_grammar.proofs.ShardStates.{shard_keeps_logged, shard_starts, log_grows, has_new_volatile as has_new_shard_volatile}
 use Rattle.rc_grammar.proofs.CoordStates.{coord_keeps_logged, coord_starts, has_new_volatile as has_new_coord_volatile}
@@ -42,13 +42,13 @@ HasDeed (ByShard d sh x act) = HasLog x.log × HasShardDurable x.durable × Shar
 HasDeed (CoordStops d x kept) = HasLog x.log × HasCoordDurable x.durable × HasLogged kept
 HasDeed (ShardStops d sh x kept) = HasLog x.log × HasShardDurable x.durable × HasLogged kept
 
-sends_have : (d : Deed) → HasDeed d → HasPosts (sends_of d)
-sends_have Idle h = tt
-sends_have (ByClient t act) h = h.sends
-sends_have (ByCoord d x act) h = h.2.sends
-sends_have (ByShard d sh x act) h = h.2.sends
-sends_have (CoordStops d x kept) h = tt
-sends_have (ShardStops d sh x kept) h = tt
+deed_speaks : (d : Deed) → HasDeed d → DeedSpeaks d
+deed_speaks Idle h = record { logs = tt; sends = tt }
+deed_speaks (ByClient t act) h = record { logs = tt; sends = h.sends }
+deed_speaks (ByCoord d x act) h = record { logs = h.2.logs; sends = h.2.sends }
+deed_speaks (ByShard d sh x act) h = record { logs = h.2.logs; sends = h.2.sends }
+deed_speaks (CoordStops d x kept) h = record { logs = h.2; sends = tt }
+deed_speaks (ShardStops d sh x kept) h = record { logs = h.2; sends = tt }
 
 replaced_have : (clients : Table ℕ Client) (t : ℕ) (x : Client) → AllByRecursion HasClientOf clients → HasClient x → AllByRecursion HasClientOf (replaced clients t x)
 replaced_have [] t x h own = tt
@@ -240,8 +240,11 @@ worlds_step w h e own course =
     record {
       parties = parties_have (after_begin w.parties e) (course_deed w e course) (begin_has w.parties h.parties e own) d;
       sent = all_both HasEnvelope w.sent (envelopes (actor w.sent e) (sends_of (course_deed w e course))) h.sent
-          (envelopes_have (actor w.sent e) (sends_of (course_deed w e course)) (sends_have (course_deed w e course) d) (named w h course e own));
+          (envelopes_have (actor w.sent e) (sends_of (course_deed w e course)) (deed_speaks (course_deed w e course) d).sends (named w h course e own));
     }
+
+pub deeds_speak : (w : World) → HasWorld w → (e : Event) → HasEvent e → (course : Course) → DeedSpeaks (course_deed w e course)
+deeds_speak w h e own course = deed_speaks (course_deed w e course) (along_has course (deed w.parties w.sent e) (deed_has w h e own))
 
 pub new_worlds : (c : Layout) → IsLayout c → HasWorld (new_world c)
 new_worlds c hc = record {

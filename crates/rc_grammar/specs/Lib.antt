@@ -4,3 +4,4 @@ pub mod Shards
 pub mod Coordinators
 pub mod Clients
 pub mod Worlds
+pub mod Back

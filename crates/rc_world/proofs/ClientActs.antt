@@ -33,7 +33,7 @@ module _ (z : Session) (e : Event) where
         whole = ap worn_out deed_is;
       }
 
-  pub client_acted : (t : ℕ) (act : ClientAct) → IsDone z e → the_deed ≡ ByClient t act → act.refused ≡ None → EventActed z e (with_client p t act.after) z.coords z.shards act.sends act.lines
+  pub client_acted : (t : ℕ) (act : ClientAct) → IsDone z e → the_deed ≡ ByClient t act → worn_out (ByClient t act) ≡ None → EventActed z e (with_client p t act.after) z.coords z.shards act.sends act.lines
   client_acted t act is acts taken =
       let change_is : disk_change z e ≡ deed_change z (ByClient t act) = is.change ∙ ap (deed_change z) acts in
       let deed_is : along (disk_change z e).course the_deed ≡ ByClient t act = ap (λ (c : DiskChange). along c.course the_deed) change_is ∙ acts in
@@ -42,7 +42,7 @@ module _ (z : Session) (e : Event) where
         disks = ap (with_change z) change_is;
         sends = sym (ap sends_of deed_is);
         prints = sym (ap (λ (ls : List Line). ls ++ lines_of (along (disk_change z e).course the_deed)) is.starts ∙ ap lines_of deed_is);
-        whole = ap worn_out deed_is ∙ ap (λ (o : Option ClientRefusal). maybe o None limit_of) taken;
+        whole = ap worn_out deed_is ∙ taken;
       }
 
   -- a version that the client would write is past the last

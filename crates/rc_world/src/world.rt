@@ -3,21 +3,25 @@ ghost use Rattle.std.specs.Prelude.{◌≡◌, ◌<◌, [], Some, None, IfOk, If
 ghost use Rattle.rc_runs.specs.declared.event.Event.TheVariants.{Begin};
 ghost use Rattle.rc_runs.specs.Session.{Session};
 ghost use Rattle.rc_runs.specs.World.{World as WorldState};
+ghost use Rattle.rc_protocol.specs.Acts.{ClientCause};
 ghost use Rattle.rc_world.specs.Words.{parts_of, views};
+ghost use Rattle.rc_world.specs.Clients.{AreOf, command};
 ghost use Rattle.rc_world.specs.Hosts.{Runs};
 ghost use Rattle.rc_world.specs.Steps.{event_limit};
 ghost use Rattle.rc_world.specs.Worlds.{IsWorld, HasActed, KeepsCarried};
 
 use crate::WorldFault;
-use crate::clients::Clients;
+use crate::clients::{Clients, Refused};
 use crate::shards::ShardHost;
 use rc_coord::Coord;
 use rc_disk::{Disk, Farm};
 use rc_host::Host;
 use rc_ids::{Cluster, Party, Sends, TxId};
 use rc_log::{Journal, Log};
+use rc_msg::Outbox;
 use rc_net::Net;
-use rc_report::{Which, Wrong};
+use rc_report::{Lines, Which, Wrong};
+use rc_runs::Event;
 use std::alloc::Global;
 
 /// A coordinator on its host.
@@ -85,6 +89,32 @@ impl<F: Farm> World<F> {
         Ok(Sending {
             from: Party::Client(tx),
             sends: Sends::new(self.alloc),
+        })
+    }
+
+    /// A client takes a command.
+    fn command(&mut self, tx: TxId, event: &Event, lines: &mut Lines) -> Result<Sending, WorldFault>
+        requires of { AreOf self.old.cluster self.old.clients.cores }
+        requires lines { lines.old ≡ [] }
+        ensures ok { (r : Runs) (z : Session) (cause : ClientCause) → IsWorld (views ⟦<Log<F::D> as Journal>⟧.state F.D.told F.D.content F.D.power) r (parts_of self.old) z → command event.now ≡ Some (tx, cause)
+            → IfOk result (λ s. HasActed (views ⟦<Log<F::D> as Journal>⟧.state F.D.told F.D.content F.D.power) r z event.now (parts_of self.new) s.from s.sends lines.new) }
+        ensures carried { KeepsCarried (parts_of self.old) (parts_of self.new) }
+        ensures of { AreOf self.new.cluster self.new.clients.cores }
+    {
+        let mut out = Outbox::new(self.alloc, Party::Client(tx));
+        match self.clients.obey(&self.cluster, event, &mut out, lines) {
+            Ok(()) => {}
+            Err(Refused::NoMemory) => return Err(WorldFault::NoMemory),
+            Err(Refused::Naming(name)) => return Err(WorldFault::Naming(name)),
+            Err(Refused::VersionSpent) => {
+                self.event_limit()?;
+                return Err(WorldFault::Limit(Which::Version));
+            }
+        }
+        self.event_limit()?;
+        Ok(Sending {
+            from: Party::Client(tx),
+            sends: out.into_sends(),
         })
     }
 }

@@ -1,3 +1,4 @@
+use Rattle.rc_grammar.proofs.Sessions as sessions
 use Rattle.rc_grammar.proofs.Worlds as worlds
 use Rattle.rc_grammar.proofs.worlds_speak.Goals as goal
 
@@ -9,3 +10,9 @@ returns-clause-new c = worlds.new_worlds
 
 pub returns-clause-started : goal.returns-clause-started
 returns-clause-started c = worlds.started_worlds
+
+pub returns-clause-runs : goal.returns-clause-runs
+returns-clause-runs c = sessions.runs_go_on
+
+pub returns-clause-deeds : goal.returns-clause-deeds
+returns-clause-deeds c = worlds.deeds_speak
