@@ -16,4 +16,4 @@ pub mod Answering
 pub mod Tabling
 pub mod Obeying
 pub mod Hearing
-pub mod Commands
+pub mod Told

@@ -8,5 +8,6 @@ pub mod OneClient
 pub mod Hosts
 pub mod Turns
 pub mod Acted
+pub mod Wells
 pub mod Worlds
 pub mod Words

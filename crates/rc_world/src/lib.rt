@@ -2,6 +2,7 @@
 #![tactic(auto)]
 
 mod clients;
+mod commands;
 mod fault;
 mod mail;
 mod shards;

@@ -1,37 +1,20 @@
 // A world of nodes on their disks, clients and the network between them.
-ghost use Rattle.std.specs.Prelude.{◌≡◌, ◌<◌, [], Some, None, IfOk, IfErr, OnOk};
-ghost use Rattle.rc_runs.specs.declared.event.Event.TheVariants.{Begin};
-ghost use Rattle.rc_runs.specs.Session.{Session};
-ghost use Rattle.rc_runs.specs.World.{World as WorldState};
-ghost use Rattle.rc_protocol.specs.Acts.{ClientCause};
-ghost use Rattle.rc_world.specs.Words.{parts_of, views};
-ghost use Rattle.rc_world.specs.Clients.{AreOf, command};
-ghost use Rattle.rc_world.specs.Hosts.{Runs};
-ghost use Rattle.rc_world.specs.Steps.{event_limit};
-ghost use Rattle.rc_world.specs.Worlds.{IsWorld, HasActed, KeepsCarried};
+ghost use Rattle.std.specs.Prelude.{IsTrue};
+ghost use Rattle.std.specs.List.{list_all};
+ghost use Rattle.rc_world.specs.Wells.{is_well};
 
-use crate::WorldFault;
-use crate::clients::{Clients, Refused};
+use crate::clients::Clients;
 use crate::shards::ShardHost;
 use rc_coord::Coord;
-use rc_disk::{Disk, Farm};
+use rc_disk::Farm;
 use rc_host::Host;
-use rc_ids::{Cluster, Party, Sends, TxId};
-use rc_log::{Journal, Log};
-use rc_msg::Outbox;
+use rc_ids::{Cluster, Party, Sends};
+use rc_log::Log;
 use rc_net::Net;
-use rc_report::{Lines, Which, Wrong};
-use rc_runs::Event;
 use std::alloc::Global;
 
 /// A coordinator on its host.
-type CoordHost<D> = Host<Coord<Log<D>>, Log<D>, D>;
-
-/// The most transactions that are begun in a run.
-const MOST_TRANSACTIONS: usize = 1024;
-
-/// The most events of a run.
-const MOST_EVENTS: u32 = 2_000_000;
+pub(crate) type CoordHost<D> = Host<Coord<Log<D>>, Log<D>, D>;
 
 /// What a party sends in an event.
 #[derive(Drop)]
@@ -40,81 +23,17 @@ pub(crate) struct Sending {
     pub(crate) sends: Sends,
 }
 
-/// A world.
+/// A world: its nodes, each on its host, its clients, and the network between them.
 #[derive(Drop)]
 pub struct World<F: Farm> {
-    alloc: Global,
-    cluster: Cluster,
-    coords: Vec<CoordHost<F::D>>,
-    shards: Vec<ShardHost<F::D>>,
-    clients: Clients,
-    net: Net,
-    events: u32,
-    deliveries: u64,
-}
-
-impl<F: Farm> World<F> {
-    /// How many messages were delivered.
-    pub fn deliveries(&self) -> u64
-        ensures { result ≡ (parts_of self.now).deliveries }
-    {
-        self.deliveries
-    }
-
-    /// The limit of events, where one more would pass it.
-    fn event_limit(&self) -> Result<(), WorldFault>
-        ensures ok { OnOk result (event_limit (parts_of self.now).events ≡ None) }
-        ensures err { IfErr result (λ fault. (which : _) × (fault ≡ WorldFault.Limit which) × (event_limit (parts_of self.now).events ≡ Some which)) }
-    {
-        if self.events >= MOST_EVENTS {
-            return Err(WorldFault::Limit(Which::Events));
-        }
-        Ok(())
-    }
-
-    /// A transaction begins with a new client.
-    fn begin(&mut self, tx: TxId) -> Result<Sending, WorldFault>
-        ensures ok { (r : Runs) (z : Session) → IsWorld (views ⟦<Log<F::D> as Journal>⟧.state F.D.told F.D.content F.D.power) r (parts_of self.old) z
-            → IfOk result (λ s. HasActed (views ⟦<Log<F::D> as Journal>⟧.state F.D.told F.D.content F.D.power) r z (Begin tx) (parts_of self.new) s.from s.sends []) }
-        ensures carried { KeepsCarried (parts_of self.old) (parts_of self.new) }
-    {
-        if self.clients.is_begun(tx) {
-            return Err(WorldFault::Naming(Wrong::BegunTwice(tx)));
-        }
-        if self.clients.count() >= MOST_TRANSACTIONS {
-            return Err(WorldFault::Limit(Which::Transactions));
-        }
-        self.event_limit()?;
-        self.clients.begin(self.alloc, tx)?;
-        Ok(Sending {
-            from: Party::Client(tx),
-            sends: Sends::new(self.alloc),
-        })
-    }
-
-    /// A client takes a command.
-    fn command(&mut self, tx: TxId, event: &Event, lines: &mut Lines) -> Result<Sending, WorldFault>
-        requires of { AreOf self.old.cluster self.old.clients.cores }
-        requires lines { lines.old ≡ [] }
-        ensures ok { (r : Runs) (z : Session) (cause : ClientCause) → IsWorld (views ⟦<Log<F::D> as Journal>⟧.state F.D.told F.D.content F.D.power) r (parts_of self.old) z → command event.now ≡ Some (tx, cause)
-            → IfOk result (λ s. HasActed (views ⟦<Log<F::D> as Journal>⟧.state F.D.told F.D.content F.D.power) r z event.now (parts_of self.new) s.from s.sends lines.new) }
-        ensures carried { KeepsCarried (parts_of self.old) (parts_of self.new) }
-        ensures of { AreOf self.new.cluster self.new.clients.cores }
-    {
-        let mut out = Outbox::new(self.alloc, Party::Client(tx));
-        match self.clients.obey(&self.cluster, event, &mut out, lines) {
-            Ok(()) => {}
-            Err(Refused::NoMemory) => return Err(WorldFault::NoMemory),
-            Err(Refused::Naming(name)) => return Err(WorldFault::Naming(name)),
-            Err(Refused::VersionSpent) => {
-                self.event_limit()?;
-                return Err(WorldFault::Limit(Which::Version));
-            }
-        }
-        self.event_limit()?;
-        Ok(Sending {
-            from: Party::Client(tx),
-            sends: out.into_sends(),
-        })
-    }
+    pub(crate) alloc: Global,
+    pub(crate) cluster: Cluster,
+    pub(crate) coords: Vec<CoordHost<F::D>>,
+    pub(crate) shards: Vec<ShardHost<F::D>>,
+    pub(crate) clients: Clients,
+    pub(crate) net: Net,
+    pub(crate) events: u32,
+    pub(crate) deliveries: u64,
+    ghost coords_are_well: { IsTrue (list_all (is_well (λ n. n.stopped)) coords.items) },
+    ghost shards_are_well: { IsTrue (list_all (is_well (λ n. n.stopped)) shards.items) },
 }

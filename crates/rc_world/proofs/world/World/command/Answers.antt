@@ -1,7 +1,7 @@
 use Rattle.std.proofs.Common.{◌≡◌, ℕ, Option, refl, sym, ap, ◌∙◌}
 use Rattle.std.specs.Prelude.{is_some}
 use Rattle.rc_protocol.specs.Acts.{ClientCause}
-use Rattle.rc_world.proofs.Commands.{is_told, client_did}
+use Rattle.rc_world.proofs.Told.{is_told, client_did}
 use Rattle.rc_world.proofs.world.World.command.Goals as goal
 
 pub returns-clause-ok : goal.returns-clause-ok
