@@ -18,7 +18,7 @@ pub letters_are_messages : (p : Party) (ms : Posts) → LettersAreMessages p ms
 letters_are_messages p [] = refl
 letters_are_messages p (m ∷ ms) = ap (λ (rest : List Message). wire_message (record { from = p; to = m.0; msg = m.1 }) ∷ rest) (letters_are_messages p ms)
 
-on_taken : (t : Traffic) (n : ℕ) (b : Bool)
+pub on_taken : (t : Traffic) (n : ℕ) (b : Bool)
     → (cond {A = Traffic} b (record { sent = t.sent; pending = t.pending; again = removed nat_cmp t.again n }) (record { sent = t.sent; pending = removed nat_cmp t.pending n; again = t.again })).sent ≡ t.sent
 on_taken t n true = refl
 on_taken t n false = refl

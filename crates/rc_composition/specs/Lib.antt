@@ -6,3 +6,5 @@ pub mod Cuts
 pub mod Deeds
 pub mod Moves
 pub mod Messages
+pub mod Prints
+pub mod OneRun

@@ -2,7 +2,7 @@
 //! contract of a function that does nothing.
 #![tactic(auto)]
 
-ghost use Rattle.std.specs.Prelude.{List};
+ghost use Rattle.std.specs.Prelude.{◌≡◌, ◌++◌, true, List};
 ghost use Rattle.rc_ids.specs.Cluster.{Layout};
 ghost use Rattle.rc_ids.specs.declared.names.Party.{Party};
 ghost use Rattle.rc_net.specs.Network.{Message};
@@ -12,11 +12,15 @@ ghost use Rattle.rc_runs.specs.Refusals.{Happening};
 ghost use Rattle.rc_protocol.specs.Messages.{Posts};
 ghost use Rattle.rc_wire.specs.declared.rules.Rules.{Rules};
 ghost use Rattle.rc_wire.specs.declared.turn.Turn.{Turn};
+ghost use Rattle.rc_wire.specs.Chronicle.{Chronicle};
+ghost use Rattle.rc_wire.specs.Passes.{is_legal};
 ghost use Rattle.rc_composition.specs.Composed.{Operations};
 ghost use Rattle.rc_composition.specs.Cuts.{EventsAreCut, PartsAreCut};
 ghost use Rattle.rc_composition.specs.Deeds.{DeedsAreOwn};
 ghost use Rattle.rc_composition.specs.Messages.{LettersAreMessages, NumbersStay};
 ghost use Rattle.rc_composition.specs.Moves.{MovesAlone};
+ghost use Rattle.rc_composition.specs.OneRun.{IsOneRun};
+ghost use Rattle.rc_composition.specs.Steps.{AreCells};
 
 mod command;
 
@@ -42,4 +46,9 @@ pub fn moves_are_own()
 pub fn messages_stay()
     ensures letters { (p : Party) (ms : Posts) → LettersAreMessages p ms }
     ensures numbers { (rules : Rules) (front later : List Turn) → NumbersStay rules front later }
+{}
+
+/// Each front of a legal history of cells composes to one run of a new world.
+pub fn history_is_one_run()
+    ensures { (c : Layout) (ops : Operations) (wire : Chronicle) (front later : List Turn) → is_legal wire ≡ true → AreCells c ops wire → wire.turns ≡ front ++ later → IsOneRun c ops wire front later }
 {}

@@ -17,9 +17,13 @@ use Rattle.rc_runs.specs.declared.event.Event.{Event}
 use Rattle.rc_runs.specs.declared.event.Event.TheVariants.{Begin, Read, Write, Commit, Cancel, Retry, Vanish, Take, Catch, Deliver, Lose, Crash, CrashAt, Restart}
 use Rattle.rc_protocol.specs.Client.{Client}
 use Rattle.rc_protocol.specs.Acts.{ClientCause, Reads, Writes, Commits, Cancels, Retries, Vanishes, client_act}
-use Rattle.rc_runs.specs.World.{World, Parties, Deed, Idle, ByClient, deed, client_does, actor, parties_after, sends_of, lines_of}
+use Rattle.rc_runs.specs.World.{World, Start, Parties, Deed, Idle, ByClient, deed, client_does, actor, parties_after, sends_of, lines_of}
 use Rattle.rc_runs.specs.Refusals.{wrong, begins, worn_out, most_transactions}
 use Rattle.rc_runs.specs.Session.{Session}
+use Rattle.rc_ids.specs.Cluster.{Layout}
+use Rattle.rc_body.specs.declared.entry.Entry.{Entry}
+use Rattle.rc_order.specs.Orders.{Order}
+use Rattle.rc_order.specs.Counts.{IsOrderOf}
 use Rattle.rc_host.specs.declared.host.Host.{Host}
 use Rattle.rc_world.specs.Hosts.{Views, Runs, HostsAre, IsCoord, IsShard}
 use Rattle.rc_world.specs.Clients.{Roster, IsRoster, command, told, scene, Did}
@@ -72,11 +76,12 @@ client_deed z e t cause done is = by_client (found nat_cmp z.world.parties.clien
 pub early : (w : World) (e : Event) → begins e ≡ false → event_limit w.events ≡ None → early_limit w e ≡ None
 early w e none fits = ap (λ (b : Bool). if b && nat_le most_transactions (length w.parties.clients) then Some Transactions else event_limit w.events) none ∙ fits
 
-module _ {C S J D : Type 0} (v : Views C S J D) (r : Runs) (z : Session) (old new : Parts (Host C J D) (Host S J D)) (is : IsWorld v r old z) (cluster : new.cluster ≡ old.cluster) (coords : new.coords ≡ old.coords) (shards : new.shards ≡ old.shards) where
+module _ {C S J D : Type 0} (v : Views C S J D) (r : Runs) (z : Session) (old new : Parts (Host C J D) (Host S J D)) (is : IsWorld v r old z) (cluster : new.cluster ≡ old.cluster) (coords : new.coords ≡ old.coords) (shards : new.shards ≡ old.shards) (order : new.order ≡ old.order) where
   -- the parties after what a client did: nodes and disks are as before
-  pub with_clients : (q : Parties) → IsRoster new.roster q → q.layout ≡ z.world.parties.layout → q.coords ≡ z.world.parties.coords → q.shards ≡ z.world.parties.shards → AreParties v r new q z.coords z.shards
-  with_clients q roster layout same_coords same_shards =
+  pub with_clients : (q : Parties) → IsRoster new.roster q → q.layout ≡ z.world.parties.layout → q.coords ≡ z.world.parties.coords → q.shards ≡ z.world.parties.shards → q.start ≡ z.world.parties.start → q.committed ≡ z.world.parties.committed → AreParties v r new q z.coords z.shards
+  with_clients q roster layout same_coords same_shards same_start same_committed =
       let was = is.parties in
+      let p = z.world.parties in
       record {
         layout = layout ∙ was.layout;
         cluster = cluster ∙ was.cluster;
@@ -87,15 +92,17 @@ module _ {C S J D : Type 0} (v : Views C S J D) (r : Runs) (z : Session) (old ne
           of_shards = subst (λ (hs : List (Host S J D)). AreAt (IsShard v.shards r) hs q.shards z.shards) (sym shards) (subst (λ (xs : List ShardNode). AreAt (IsShard v.shards r) old.shards xs z.shards) (sym same_shards) was.hosts.of_shards);
         };
         roster = roster;
+        order = subst (λ (o : Order). IsOrderOf q.layout q.coords q.start.committed q.committed o) (sym order) (subst (λ (c : Layout). IsOrderOf c q.coords q.start.committed q.committed old.order) (sym layout) (subst (λ (xs : List CoordNode). IsOrderOf p.layout xs q.start.committed q.committed old.order) (sym same_coords)
+            (subst (λ (s : Start). IsOrderOf p.layout p.coords s.committed q.committed old.order) (sym same_start) (subst (λ (l : List (ℕ × List Entry)). IsOrderOf p.layout p.coords p.start.committed l old.order) (sym same_committed) was.order))));
       }
 
   -- what a client does changes clients alone
-  client_keeps : (t : ℕ) (cause : ClientCause) → let q = parties_after z.world.parties (client_does z.world.parties t cause) in (q.layout ≡ z.world.parties.layout) × (q.coords ≡ z.world.parties.coords) × (q.shards ≡ z.world.parties.shards)
+  client_keeps : (t : ℕ) (cause : ClientCause) → let q = parties_after z.world.parties (client_does z.world.parties t cause) in (q.layout ≡ z.world.parties.layout) × (q.coords ≡ z.world.parties.coords) × (q.shards ≡ z.world.parties.shards) × (q.start ≡ z.world.parties.start) × (q.committed ≡ z.world.parties.committed)
   client_keeps t cause = by_client (found nat_cmp z.world.parties.clients t)
     where
-      by_client : (o : Option Client) → let q = parties_after z.world.parties (maybe o Idle (λ x. ByClient t (client_act z.world.parties.layout t x cause))) in (q.layout ≡ z.world.parties.layout) × (q.coords ≡ z.world.parties.coords) × (q.shards ≡ z.world.parties.shards)
-      by_client None = (refl, refl, refl)
-      by_client (Some x) = (refl, refl, refl)
+      by_client : (o : Option Client) → let q = parties_after z.world.parties (maybe o Idle (λ x. ByClient t (client_act z.world.parties.layout t x cause))) in (q.layout ≡ z.world.parties.layout) × (q.coords ≡ z.world.parties.coords) × (q.shards ≡ z.world.parties.shards) × (q.start ≡ z.world.parties.start) × (q.committed ≡ z.world.parties.committed)
+      by_client None = (refl, refl, refl, refl, refl)
+      by_client (Some x) = (refl, refl, refl, refl, refl)
 
   -- a client did what it does in the event
   pub client_did : (e : Event) (t : ℕ) (cause : ClientCause) (before after : Outbox) (letters : List Letter) (lines own : List Line) → letters ≡ after.letters → IsDone z e → deed z.world.parties z.world.sent e ≡ client_does z.world.parties t cause → actor z.world.sent e ≡ ClientOf t → wrong z.world e ≡ None → begins e ≡ false
@@ -113,7 +120,7 @@ module _ {C S J D : Type 0} (v : Views C S J D) (r : Runs) (z : Session) (old ne
         shards = z.shards;
         sends = sends_of d;
         acted = subst (λ (ls : List Line). EventActed z e (parties_after z.world.parties d) z.coords z.shards (sends_of d) ls) (sym (did.lines ∙ ap (λ (ls : List Line). ls ++ lines_of d) none)) (client_deed z e t cause done is_deed did.whole);
-        are = with_clients (parties_after z.world.parties d) did.roster same.0 same.1 same.2;
+        are = with_clients (parties_after z.world.parties d) did.roster same.0 same.1 same.2 same.3 same.4;
         actor_is = sym who;
         posted = sent ∙ ap (λ (o : Outbox). o.letters) (did.sends ∙ ap (λ (o : Outbox). posted_all o (sends_of d)) empty);
       }

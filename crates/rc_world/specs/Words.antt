@@ -14,7 +14,7 @@ use Rattle.rc_world.specs.Hosts.{Views}
 use Rattle.rc_world.specs.Worlds.{Parts}
 
 abbrev pub parts_of : {F D : Type 0} {f g : _} → World F D f g → Parts (Host (CoordCore (Log D g)) (Log D g) D) (Host (ShardCore (Log D g)) (Log D g) D)
-parts_of w = record { cluster = w.cluster; coords = w.coords.items; shards = w.shards.items; roster = w.clients; net = w.net; events = w.events; deliveries = w.deliveries }
+parts_of w = record { cluster = w.cluster; coords = w.coords.items; shards = w.shards.items; roster = w.clients; order = w.order; net = w.net; events = w.events; deliveries = w.deliveries }
 
 abbrev pub views : {J D : Type 0} → (J → State) → (D → Option Told) → (D → Option (List ℕ)) → (D → Power) → Views (CoordCore J) (ShardCore J) J D
 views state told content power = record { coords = sight coord_seen state told content power; shards = sight shard_seen state told content power }

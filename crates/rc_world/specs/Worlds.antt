@@ -13,6 +13,8 @@ use Rattle.rc_runs.specs.Devices.{Device}
 use Rattle.rc_runs.specs.Session.{Session}
 use Rattle.rc_host.specs.declared.host.Host.{Host}
 use Rattle.rc_grammar.specs.Worlds.{HasWorld}
+use Rattle.rc_order.specs.Orders.{Order}
+use Rattle.rc_order.specs.Counts.{IsOrderOf}
 use Rattle.rc_world.specs.Clients.{Roster, IsRoster}
 use Rattle.rc_world.specs.Hosts.{Views, Runs, HostsAre}
 use Rattle.rc_world.specs.Mail.{IsMail, letters_of}
@@ -24,6 +26,7 @@ pub record Parts (C S : Type 0) : Type 0 where
   pub coords : List C
   pub shards : List S
   pub roster : Roster
+  pub order : Order
   pub net : Network
   pub events : ℕ
   pub deliveries : ℕ
@@ -36,6 +39,7 @@ pub record AreParties {C S J D : Type 0} (v : Views C S J D) (r : Runs) (w : Par
   pub of_shards : length w.shards ≡ r.cluster.dcs * r.cluster.shards
   pub hosts : HostsAre v r w.coords w.shards p coords shards
   pub roster : IsRoster w.roster p
+  pub order : IsOrderOf p.layout p.coords p.start.committed p.committed w.order
 
 -- what is sent and counted, beside the parties
 pub record IsCarried {C S : Type 0} (w : Parts C S) (z : World) : Type 0 where

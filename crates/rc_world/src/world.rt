@@ -11,6 +11,7 @@ use rc_host::Host;
 use rc_ids::{Cluster, Party, Sends};
 use rc_log::Log;
 use rc_net::Net;
+use rc_order::Order;
 use std::alloc::Global;
 
 /// A coordinator on its host.
@@ -31,6 +32,7 @@ pub struct World<F: Farm> {
     pub(crate) coords: Vec<CoordHost<F::D>>,
     pub(crate) shards: Vec<ShardHost<F::D>>,
     pub(crate) clients: Clients,
+    pub(crate) order: Order,
     pub(crate) net: Net,
     pub(crate) events: u32,
     pub(crate) deliveries: u64,

@@ -8,5 +8,5 @@ pub returns-clause-ok : goal.returns-clause-ok
 returns-clause-ok g c = λ r z cause is at.
     let told = is_told z c.args.event.now c.args.tx cause at in
     let named = c.in-Ok.ensures.right z.world is.parties.roster (ap (λ (o : Option (ℕ × ClientCause)). is_some o) at) in
-    client_did _ r z _ _ is refl refl refl c.args.event.now c.args.tx cause c.new-out.result c.obey.new.out c.into_sends.result c.args.lines.now c.obey.new.lines c.into_sends.ensures told.done told.deed_is told.actor_is named told.no_begin
+    client_did _ r z _ _ is refl refl refl refl c.args.event.now c.args.tx cause c.new-out.result c.obey.new.out c.into_sends.result c.args.lines.now c.obey.new.lines c.into_sends.ensures told.done told.deed_is told.actor_is named told.no_begin
     c.in_ok-event_limit.ensures.ok refl c.new-out.ensures c.requires.lines _ told.told_is (c.in-Ok.ensures.done z.world.parties (is.parties.layout ∙ sym is.parties.cluster) is.parties.roster)

@@ -1,0 +1,4 @@
+-- What the contracts of this crate cite.
+pub mod Orders
+pub mod Counts
+pub mod Logs
