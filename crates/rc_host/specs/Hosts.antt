@@ -108,6 +108,11 @@ abbrev pub is_up : {N J D : Type 0} → Host N J D → Bool
 is_up (Up node) = true
 is_up _ = false
 
+-- between two events a host is there
+abbrev pub IsThere : {N J D : Type 0} → Host N J D → Type 0
+IsThere Lent = ⊥
+IsThere _ = Unit {0}
+
 -- what the host's disk tells is told at the end still
 abbrev pub IsToldBy : {N J D : Type 0} → Sight N J D → Host N J D → Told → Type 0
 IsToldBy s (Up node) ended = IfSome (s.state (s.seen node).journal).told (λ t. IsKept t ended)

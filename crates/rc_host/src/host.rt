@@ -10,7 +10,7 @@ ghost use Rattle.rc_host.specs.Causes.{cause_of};
 ghost use Rattle.rc_host.specs.Standing.{Standing};
 ghost use Rattle.rc_host.specs.declared.host.Host.TheVariants.{Up};
 ghost use Rattle.rc_host.specs.declared.host.Course.TheVariants.{Goes};
-ghost use Rattle.rc_host.specs.Hosts.{CountsOn, Run, sight, is_up, IfUp, IsHost, IsUp, CanRead, IsToldBy, HasReadsLeft, Went, Stayed, StopsAt, OpensAgain, StaysShut};
+ghost use Rattle.rc_host.specs.Hosts.{IsThere, CountsOn, Run, sight, is_up, IfUp, IsHost, IsUp, CanRead, IsToldBy, HasReadsLeft, Went, Stayed, StopsAt, OpensAgain, StaysShut};
 
 use crate::{Cause, Node};
 use rc_disk::Disk;
@@ -75,6 +75,7 @@ fn open_at_once<D: Disk, N: Node<Log<D>>>(
     ensures err { (run : Run) (blobs : List (List ℕ)) (d : Device) → StopsAt run (⟦<Log<D> as Journal>⟧.state log) blobs d → IsToldBy (sight N.seen ⟦<Log<D> as Journal>⟧.state D.told D.content D.power) result.0 run.ended
         → IfErr result.1 (λ fault. StaysShut fault d) }
     ensures down { is_up result.0 ≡ false }
+    ensures there { IsThere result.0 }
     ensures whole { (⟦<Log<D> as Journal>⟧.state log).failed ≡ false → IfSome (⟦<Log<D> as Journal>⟧.state log).told (λ t. IfSome (⟦<Log<D> as Journal>⟧.state log).records (λ rs. records (read_bytes t) ≡ Ok rs)) }
     ensures grew { (ended : Told) → IfSome (⟦<Log<D> as Journal>⟧.state log).told (λ t. t.reads.made < 2 ^ 64 - 1) → IsToldBy (sight N.seen ⟦<Log<D> as Journal>⟧.state D.told D.content D.power) result.0 ended → IfSome (⟦<Log<D> as Journal>⟧.state log).told (λ t. IsKept t ended) }
 {
@@ -109,6 +110,7 @@ fn turn<D: Disk, N: Node<Log<D>>>(
         → let act = node_act run.cluster run.node x.durable x.volatile (cause_of cause.now) in IfSome act.logs HasRecord → IsToldBy (sight N.seen ⟦<Log<D> as Journal>⟧.state D.told D.content D.power) result.0 run.ended
         → IfErr result.1 (λ fault. Stayed (sight N.seen ⟦<Log<D> as Journal>⟧.state D.told D.content D.power) (N.back run.node run.cluster) run fault result.0 out.old out.new x d act) }
     ensures up { IfUp result.0 (λ after. (N.seen after).stopped ≡ false) }
+    ensures there { IsThere result.0 }
     ensures counts { (run : Run) (x : Standing) (d : Device) → IsUp (sight N.seen ⟦<Log<D> as Journal>⟧.state D.told D.content D.power) (N.back run.node run.cluster) run node x d
         → IfOk result.1 (λ course. CountsOn (sight N.seen ⟦<Log<D> as Journal>⟧.state D.told D.content D.power) (Up node) result.0 (node_act run.cluster run.node x.durable x.volatile (cause_of cause.now))) }
     ensures grew { (ended : Told) → CanRead (sight N.seen ⟦<Log<D> as Journal>⟧.state D.told D.content D.power) (Up node) → IsToldBy (sight N.seen ⟦<Log<D> as Journal>⟧.state D.told D.content D.power) result.0 ended → IsToldBy (sight N.seen ⟦<Log<D> as Journal>⟧.state D.told D.content D.power) (Up node) ended }
@@ -135,6 +137,7 @@ pub fn act<D: Disk, N: Node<Log<D>>>(
 ) -> Result<Course, HostFault>
     requires { IfUp host.old (λ node. (N.seen node).stopped ≡ false) }
     ensures up { IfUp host.new (λ node. (N.seen node).stopped ≡ false) }
+    ensures there { IsThere host.old → IsThere host.new }
     ensures ok { (run : Run) (x : Standing) (d : Device) → is_up host.old ≡ true → IsHost (sight N.seen ⟦<Log<D> as Journal>⟧.state D.told D.content D.power) (N.back run.node run.cluster) run host.old x d → HasReadsLeft run d
         → let act = node_act run.cluster run.node x.durable x.volatile (cause_of cause.now) in IfSome act.logs HasRecord → IsToldBy (sight N.seen ⟦<Log<D> as Journal>⟧.state D.told D.content D.power) host.new run.ended
         → IfOk result (λ course. Went (sight N.seen ⟦<Log<D> as Journal>⟧.state D.told D.content D.power) (N.back run.node run.cluster) run course host.new out.old out.new x d act) }

@@ -17,3 +17,5 @@ pub mod Tabling
 pub mod Obeying
 pub mod Hearing
 pub mod Told
+pub mod Wellness
+pub mod Noded

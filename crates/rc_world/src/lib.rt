@@ -5,6 +5,7 @@ mod clients;
 mod commands;
 mod fault;
 mod mail;
+mod nodes;
 mod shards;
 mod turns;
 mod votes;

@@ -1,5 +1,6 @@
 // Shard servers at their places.
-ghost use Rattle.std.specs.Prelude.{◌≡◌, ◌*◌, ◌<◌, [], ℕ, List, true, false, length, IfOk, IfErr, IfSome};
+ghost use Rattle.std.specs.Prelude.{◌≡◌, ◌*◌, ◌<◌, [], ℕ, List, true, false, length, IfOk, IfErr, IfSome, IsTrue};
+ghost use Rattle.std.specs.List.{list_all};
 ghost use Rattle.rc_protocol.specs.Nodes.{shard_index};
 ghost use Rattle.rc_protocol.specs.Acts.{shard_act};
 ghost use Rattle.rc_runs.specs.declared.event.Event.{Event as AnyEvent};
@@ -8,10 +9,11 @@ ghost use Rattle.rc_runs.specs.World.{deed, shard_does, is_shard_of as is_of_wor
 ghost use Rattle.rc_ids.specs.declared.names.NodeId.TheVariants.{Shard as ShardServer};
 ghost use Rattle.rc_host.specs.AnyNode.{shard_seen};
 ghost use Rattle.rc_host.specs.Causes.{cause_of};
-ghost use Rattle.rc_host.specs.Hosts.{IfUp, sight};
+ghost use Rattle.rc_host.specs.Hosts.{sight};
 ghost use Rattle.rc_grammar.specs.Acts.{HasNodeCause};
 ghost use Rattle.rc_grammar.specs.Worlds.{HasWorld};
-ghost use Rattle.rc_world.specs.Places.{shard_name, AreAt, AllAt};
+ghost use Rattle.rc_world.specs.Places.{shard_name, AreAt};
+ghost use Rattle.rc_world.specs.Wells.{is_well};
 ghost use Rattle.rc_world.specs.Hosts.{Runs, IsShard, ShardsAreTold, HaveReadsLeft};
 ghost use Rattle.rc_world.specs.Steps.{IsDone};
 ghost use Rattle.rc_world.specs.Acted.{ShardsActed};
@@ -33,14 +35,14 @@ use std::alloc::Global;
 pub(crate) type ShardHost<D> = Host<Shard<Log<D>, Locks>, Log<D>, D>;
 
 /// Whether the shard server is one of the world.
-fn is_shard_of(cluster: &Cluster, dc: DcId, shard: ShardId) -> bool
+pub(crate) fn is_shard_of(cluster: &Cluster, dc: DcId, shard: ShardId) -> bool
     ensures { result ≡ is_of_world cluster.now dc shard }
 {
     dc.0 <= cluster.dcs() && shard.0 <= cluster.shards()
 }
 
 /// The place of a shard server.
-fn place_of(cluster: &Cluster, dc: DcId, shard: ShardId) -> usize
+pub(crate) fn place_of(cluster: &Cluster, dc: DcId, shard: ShardId) -> usize
     requires { is_of_world cluster.now dc shard ≡ true }
     ensures place { result ≡ shard_index cluster.now dc shard }
     ensures within { result < cluster.now.dcs * cluster.now.shards }
@@ -58,10 +60,10 @@ pub(crate) fn shard_acts<D: Disk>(
     cause: &Cause<'_>,
     lines: &mut Lines,
 ) -> Result<Outbox, WorldFault>
-    requires up { AllAt (λ _ h. IfUp h (λ n. n.stopped ≡ false)) shards.old.items }
+    requires well { IsTrue (list_all (is_well (λ n. n.stopped)) shards.old.items) }
     requires within { place < length shards.old.items }
     requires lines { lines.old ≡ [] }
-    ensures up { AllAt (λ _ h. IfUp h (λ n. n.stopped ≡ false)) shards.new.items }
+    ensures well { IsTrue (list_all (is_well (λ n. n.stopped)) shards.new.items) }
     ensures count { length shards.new.items ≡ length shards.old.items }
     ensures ok { (r : Runs) (z : Session) (e : AnyEvent) (dc shard : ℕ) → r.cluster ≡ cluster.now → z.world.parties.layout ≡ r.cluster → HasWorld z.world → node.now ≡ ShardServer dc shard → is_of_world r.cluster dc shard ≡ true → place ≡ shard_index r.cluster dc shard
         → AreAt (IsShard (sight shard_seen ⟦<Log<D> as Journal>⟧.state D.told D.content D.power) r) shards.old.items z.world.parties.shards z.shards → IsDone z e → deed z.world.parties z.world.sent e ≡ shard_does z.world.parties dc shard (cause_of cause.now)

@@ -7,7 +7,7 @@ ghost use Rattle.rc_runs.specs.Devices.{Device};
 ghost use Rattle.rc_disk.specs.Calls.{Told};
 ghost use Rattle.rc_host.specs.AnyNode.{node_act};
 ghost use Rattle.rc_host.specs.Standing.{Standing};
-ghost use Rattle.rc_host.specs.Hosts.{CountsOn, Run, sight, is_up, IfUp, IsHost, IsToldBy, HasReadsLeft, CanRead};
+ghost use Rattle.rc_host.specs.Hosts.{IsThere, CountsOn, Run, sight, is_up, IfUp, IsHost, IsToldBy, HasReadsLeft, CanRead};
 ghost use Rattle.rc_host.specs.Causes.{cause_of};
 ghost use Rattle.rc_world.specs.Turns.{Turned, TurnRefused, fault_of};
 
@@ -44,6 +44,7 @@ pub(crate) fn turn<D: Disk, N: Node<Log<D>>>(
     requires up { IfUp host.old (λ n. (N.seen n).stopped ≡ false) }
     requires lines { lines.old ≡ [] }
     ensures up { IfUp host.new (λ n. (N.seen n).stopped ≡ false) }
+    ensures there { IsThere host.old → IsThere host.new }
     ensures ok { (run : Run) (x : Standing) (d : Device) → run.node ≡ node.now → is_up host.old ≡ true → IsHost (sight N.seen ⟦<Log<D> as Journal>⟧.state D.told D.content D.power) (N.back run.node run.cluster) run host.old x d → HasReadsLeft run d
         → let act = node_act run.cluster run.node x.durable x.volatile (cause_of cause.now) in IfSome act.logs HasRecord → IsToldBy (sight N.seen ⟦<Log<D> as Journal>⟧.state D.told D.content D.power) host.new run.ended
         → IfOk result (λ out. Turned (sight N.seen ⟦<Log<D> as Journal>⟧.state D.told D.content D.power) (N.back run.node run.cluster) run host.new out lines.new x d act) }

@@ -9,6 +9,7 @@ use Rattle.rc_world.specs.Hosts.{run_at}
 use Rattle.rc_world.proofs.ShardTurns as turns
 use Rattle.rc_world.proofs.Lists.{name_is}
 use Rattle.rc_world.proofs.ShardTurns.{acts_named, logs_spelled}
+use Rattle.rc_world.proofs.Wellness.{well_at, well_set}
 use Rattle.rc_world.proofs.shards.shard_acts.Goals as goal
 
 pub returns-clause-ok : goal.returns-clause-ok
@@ -30,3 +31,8 @@ returns-clause-ok g c = λ r z e dc shard cluster layout grammar node there spot
     acts_named _ r hosts z are layout dc shard there name within cause e done is_deed h new at own c.turn.result c.args.place c.args.node.now spot node
     (λ up. c.turn.ensures.ok (run_at r (shard_name r.cluster place)) (shard_standing x) device.0 (name ∙ sym node) up is.host (left place device.0 device.1) spelled told_here)
     c.turn.ensures.idle
+
+pub returns-clause-well : goal.returns-clause-well
+returns-clause-well g c =
+    let fine = well_at (λ n. n.stopped) c.args.shards.now.items c.args.place c.index_mut.result.now c.requires.well c.requires.within c.index_mut.ensures.value in
+    well_set (λ n. n.stopped) c.args.shards.now.items c.args.place c.turn.new.host c.requires.well (c.turn.ensures.there fine.0) c.turn.ensures.up

@@ -1,0 +1,68 @@
+// Nodes act in an event.
+ghost use Rattle.std.specs.Prelude.{◌≡◌, [], false, None, IfOk, IfErr};
+ghost use Rattle.rc_ids.specs.declared.names.NodeId.TheVariants.{Shard as ShardServer};
+ghost use Rattle.rc_ids.specs.declared.names.Party.TheVariants.{Node as NodeParty};
+ghost use Rattle.rc_runs.specs.declared.event.Event.{Event as AnyEvent};
+ghost use Rattle.rc_runs.specs.Refusals.{wrong, begins};
+ghost use Rattle.rc_runs.specs.Session.{Session};
+ghost use Rattle.rc_runs.specs.World.{deed, shard_does, actor};
+ghost use Rattle.rc_host.specs.Causes.{cause_of};
+ghost use Rattle.rc_grammar.specs.Acts.{HasNodeCause};
+ghost use Rattle.rc_world.specs.Words.{parts_of, views};
+ghost use Rattle.rc_world.specs.Places.{shard_name};
+ghost use Rattle.rc_world.specs.Hosts.{Runs, HaveReadsLeft, ShardsAreTold};
+ghost use Rattle.rc_world.specs.Steps.{IsDone};
+ghost use Rattle.rc_world.specs.Worlds.{IsWorld, HasActed, KeepsCarried};
+
+use crate::WorldFault;
+use crate::shards::{is_shard_of, place_of, shard_acts};
+use crate::world::{Sending, World};
+use rc_disk::{Disk, Farm};
+use rc_host::Cause;
+use rc_ids::{DcId, NodeId, Party, Sends, ShardId};
+use rc_log::{Journal, Log};
+use rc_report::Lines;
+
+impl<F: Farm> World<F> {
+    /// A shard server, if it is one of the world and up, does what moves it.
+    pub(crate) fn shard_does(
+        &mut self,
+        dc: DcId,
+        shard: ShardId,
+        cause: &Cause<'_>,
+        lines: &mut Lines,
+    ) -> Result<Sending, WorldFault>
+        requires lines { lines.old ≡ [] }
+        ensures ok { (r : Runs) (z : Session) (e : AnyEvent) → IsWorld (views ⟦<Log<F::D> as Journal>⟧.state F.D.told F.D.content F.D.power) r (parts_of self.old) z
+            → HasNodeCause (cause_of cause.now) → IsDone z e → deed z.world.parties z.world.sent e ≡ shard_does z.world.parties dc shard (cause_of cause.now) → actor z.world.sent e ≡ NodeParty (ShardServer dc shard)
+            → wrong z.world e ≡ None → begins e ≡ false → HaveReadsLeft r (shard_name r.cluster) z.shards
+            → ShardsAreTold (views ⟦<Log<F::D> as Journal>⟧.state F.D.told F.D.content F.D.power).shards r (parts_of self.new).shards
+            → IfOk result (λ s. HasActed (views ⟦<Log<F::D> as Journal>⟧.state F.D.told F.D.content F.D.power) r z e (parts_of self.new) s.from s.sends lines.new) }
+        ensures carried { KeepsCarried (parts_of self.old) (parts_of self.new) }
+    {
+        self.event_limit()?;
+        let node = NodeId::Shard(dc, shard);
+        if is_shard_of(&self.cluster, dc, shard) {
+            let place = place_of(&self.cluster, dc, shard);
+            if place < self.shards.len() {
+                let out = shard_acts(
+                    self.alloc,
+                    &self.cluster,
+                    &mut self.shards,
+                    place,
+                    &node,
+                    cause,
+                    lines,
+                )?;
+                return Ok(Sending {
+                    from: Party::Node(node),
+                    sends: out.into_sends(),
+                });
+            }
+        }
+        Ok(Sending {
+            from: Party::Node(node),
+            sends: Sends::new(self.alloc),
+        })
+    }
+}
