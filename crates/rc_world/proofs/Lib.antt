@@ -19,3 +19,4 @@ pub mod Hearing
 pub mod Told
 pub mod Wellness
 pub mod Noded
+pub mod Stepping

@@ -47,7 +47,7 @@ module _ {C S J D : Type 0} (v : Views C S J D) (r : Runs) (z : Session) (old : 
           roster = record { named = was.roster.named; clients = was.roster.clients };
           order = was.order;
         };
-        actor_is = sym who;
+        actor_is = λ some. sym who;
         posted = sent ∙ ap (λ (o : Outbox). o.letters) did.posted;
       }
 
@@ -62,6 +62,6 @@ module _ {C S J D : Type 0} (v : Views C S J D) (r : Runs) (z : Session) (old : 
     sends = [];
     acted = subst (EventActed z e z.world.parties z.coords z.shards []) (sym silent) (idles z e done idle);
     are = is.parties;
-    actor_is = sym who;
+    actor_is = λ some. sym who;
     posted = none;
   }

@@ -121,6 +121,6 @@ module _ {C S J D : Type 0} (v : Views C S J D) (r : Runs) (z : Session) (old ne
         sends = sends_of d;
         acted = subst (λ (ls : List Line). EventActed z e (parties_after z.world.parties d) z.coords z.shards (sends_of d) ls) (sym (did.lines ∙ ap (λ (ls : List Line). ls ++ lines_of d) none)) (client_deed z e t cause done is_deed did.whole);
         are = with_clients (parties_after z.world.parties d) did.roster same.0 same.1 same.2 same.3 same.4;
-        actor_is = sym who;
+        actor_is = λ some. sym who;
         posted = sent ∙ ap (λ (o : Outbox). o.letters) (did.sends ∙ ap (λ (o : Outbox). posted_all o (sends_of d)) empty);
       }

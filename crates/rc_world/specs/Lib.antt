@@ -11,3 +11,4 @@ pub mod Acted
 pub mod Wells
 pub mod Worlds
 pub mod Words
+pub mod Limits

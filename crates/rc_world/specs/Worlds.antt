@@ -1,5 +1,5 @@
 -- A world on its hosts, as the session of a run.
-use Rattle.std.specs.Prelude.{◌≡◌, ℕ, ◌*◌, ◌≤◌, List, length, None}
+use Rattle.std.specs.Prelude.{◌≡◌, ◌≢◌, ℕ, ◌*◌, ◌≤◌, List, [], length, None}
 use Rattle.rc_ids.specs.Cluster.{Layout}
 use Rattle.rc_ids.specs.declared.names.Party.{Party}
 use Rattle.rc_ids.specs.declared.sends.Letter.{Letter}
@@ -64,7 +64,7 @@ pub record HasActed {C S J D : Type 0} (v : Views C S J D) (r : Runs) (z : Sessi
   pub sends : Posts
   pub acted : EventActed z e parties coords shards sends own
   pub are : AreParties v r new parties coords shards
-  pub actor_is : from ≡ actor z.world.sent e
+  pub actor_is : sends ≢ [] → from ≡ actor z.world.sent e
   pub posted : letters ≡ letters_of from sends
 
 -- the event happened, and the world is the session after it
@@ -78,3 +78,11 @@ pub record KeepsCarried {C S : Type 0} (old new : Parts C S) : Type 0 where
   pub net : new.net ≡ old.net
   pub events : new.events ≡ old.events
   pub deliveries : new.deliveries ≡ old.deliveries
+
+-- no party changed
+pub record KeepsParties {C S : Type 0} (old new : Parts C S) : Type 0 where
+  pub cluster : new.cluster ≡ old.cluster
+  pub coords : new.coords ≡ old.coords
+  pub shards : new.shards ≡ old.shards
+  pub roster : new.roster ≡ old.roster
+  pub order : new.order ≡ old.order

@@ -1,12 +1,16 @@
 // Commands of clients.
-ghost use Rattle.std.specs.Prelude.{◌≡◌, [], Some, None, IfOk, IfErr, OnOk};
+ghost use Rattle.std.specs.Prelude.{◌≡◌, [], false, Some, None, IfOk, IfErr, OnOk};
 ghost use Rattle.rc_runs.specs.declared.event.Event.TheVariants.{Begin};
 ghost use Rattle.rc_runs.specs.Session.{Session};
-ghost use Rattle.rc_protocol.specs.Acts.{ClientCause};
+ghost use Rattle.rc_ids.specs.declared.names.Party.TheVariants.{Client as ClientParty};
+ghost use Rattle.rc_protocol.specs.Acts.{ClientCause, Hears};
+ghost use Rattle.rc_runs.specs.declared.event.Event.{Event as AnyEvent};
+ghost use Rattle.rc_runs.specs.Refusals.{wrong, begins};
+ghost use Rattle.rc_runs.specs.World.{deed, client_does, actor};
 ghost use Rattle.rc_world.specs.Words.{parts_of, views};
 ghost use Rattle.rc_world.specs.Clients.{AreOf, command};
 ghost use Rattle.rc_world.specs.Hosts.{Runs};
-ghost use Rattle.rc_world.specs.Steps.{event_limit};
+ghost use Rattle.rc_world.specs.Steps.{IsDone, event_limit};
 ghost use Rattle.rc_world.specs.Worlds.{IsWorld, HasActed, KeepsCarried};
 
 use crate::clients::Refused;
@@ -15,7 +19,7 @@ use crate::WorldFault;
 use rc_disk::{Disk, Farm};
 use rc_ids::{Party, Sends, TxId};
 use rc_log::{Journal, Log};
-use rc_msg::Outbox;
+use rc_msg::{Msg, Outbox};
 use rc_report::{Lines, Which, Wrong};
 use rc_runs::Event;
 
@@ -68,6 +72,33 @@ impl<F: Farm> World<F> {
     {
         let mut out = Outbox::new(self.alloc, Party::Client(tx));
         match self.clients.obey(&self.cluster, event, &mut out, lines) {
+            Ok(()) => {}
+            Err(Refused::NoMemory) => return Err(WorldFault::NoMemory),
+            Err(Refused::Naming(name)) => return Err(WorldFault::Naming(name)),
+            Err(Refused::VersionSpent) => {
+                self.event_limit()?;
+                return Err(WorldFault::Limit(Which::Version));
+            }
+        }
+        self.event_limit()?;
+        Ok(Sending {
+            from: Party::Client(tx),
+            sends: out.into_sends(),
+        })
+    }
+
+    /// A client hears a message; nobody does where there is no such client.
+    pub(crate) fn hear(&mut self, tx: TxId, msg: &Msg, lines: &mut Lines) -> Result<Sending, WorldFault>
+        requires of { AreOf self.old.cluster self.old.clients.cores }
+        requires lines { lines.old ≡ [] }
+        ensures ok { (r : Runs) (z : Session) (e : AnyEvent) → IsWorld (views ⟦<Log<F::D> as Journal>⟧.state F.D.told F.D.content F.D.power) r (parts_of self.old) z
+            → IsDone z e → deed z.world.parties z.world.sent e ≡ client_does z.world.parties tx (Hears msg.now) → actor z.world.sent e ≡ ClientParty tx → wrong z.world e ≡ None → begins e ≡ false
+            → IfOk result (λ s. HasActed (views ⟦<Log<F::D> as Journal>⟧.state F.D.told F.D.content F.D.power) r z e (parts_of self.new) s.from s.sends lines.new) }
+        ensures carried { KeepsCarried (parts_of self.old) (parts_of self.new) }
+        ensures of { AreOf self.new.cluster self.new.clients.cores }
+    {
+        let mut out = Outbox::new(self.alloc, Party::Client(tx));
+        match self.clients.hear(&self.cluster, tx, msg, &mut out, lines) {
             Ok(()) => {}
             Err(Refused::NoMemory) => return Err(WorldFault::NoMemory),
             Err(Refused::Naming(name)) => return Err(WorldFault::Naming(name)),

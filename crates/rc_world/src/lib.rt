@@ -6,6 +6,7 @@ mod commands;
 mod fault;
 mod mail;
 mod nodes;
+mod sending;
 mod shards;
 mod turns;
 mod votes;
