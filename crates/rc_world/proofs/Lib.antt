@@ -10,4 +10,10 @@ pub mod ShardHosts
 pub mod MailFacts
 pub mod PostFacts
 pub mod Turning
+pub mod Refusals
+pub mod ShardFaults
 pub mod ShardTurns
+pub mod SpentRows
+pub mod CoordFaults
+pub mod CoordVotes
+pub mod CoordTurns

@@ -8,3 +8,5 @@ pub mod Worlds
 pub mod Words
 pub mod Turns
 pub mod Acted
+pub mod Refused
+pub mod CoordActed

@@ -23,8 +23,7 @@ lines_of node Goes = []
 lines_of node (Stops kept) = Stopped node ∷ []
 
 -- the node did its act, or stopped inside it, and that is printed
-pub record Turned {N J D : Type 0} (s : Sight N J D) (gives : List (List ℕ) → NodeDurable → Type 0) (run : Run) (new : Host N J D) (out : Outbox) (printed : List Line) (x : Standing) (d : Device) (act : AnyAct) : Type 0 where
-  pub course : Course
+pub record Turned {N J D : Type 0} (s : Sight N J D) (gives : List (List ℕ) → NodeDurable → Type 0) (run : Run) (new : Host N J D) (out : Outbox) (course : Course) (printed : List Line) (x : Standing) (d : Device) (act : AnyAct) : Type 0 where
   pub went : Went s gives run course new (new_outbox (Node run.node)) out x d act
   pub prints : printed ≡ lines_of run.node course
 

@@ -1,6 +1,7 @@
 //! A world of nodes on their disks, clients and the network between them: one event on all.
 #![tactic(auto)]
 
+mod coords;
 mod fault;
 mod mail;
 mod shards;

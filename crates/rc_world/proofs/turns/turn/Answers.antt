@@ -16,7 +16,7 @@ returns-in-Ok-Goes-clause-ok g c = λ run x d named up host left logged told.
 
 pub returns-in-Ok-Stops-clause-ok : goal.returns-in-Ok-Stops-clause-ok
 returns-in-Ok-Stops-clause-ok g c = λ run x d named up host left logged told.
-    turned _ _ run _ x d _ c.in-Ok-Stops.field-0 (Stops c.in-Ok-Stops.field-0-0) c.new-out.result _ c.push.new.self c.in-Ok-Stops.field-0-is (c.new-out.ensures ∙ ap (λ (n : NodeId). new_outbox (NodeParty n)) (sym named)) (c.in_ok-push.ensures.ok ∙ ap (λ (ls : List Line). ls ++ Stopped c.args.node.now ∷ []) c.requires.lines ∙ ap (λ (n : NodeId). Stopped n ∷ []) (sym named))
+    turned _ _ run _ x d _ c.in-Ok-Stops.field-0 (Stops c.in-Ok-Stops.kept) c.new-out.result _ c.push.new.self c.in-Ok-Stops.field-0-is (c.new-out.ensures ∙ ap (λ (n : NodeId). new_outbox (NodeParty n)) (sym named)) (c.in_ok-push.ensures.ok ∙ ap (λ (ls : List Line). ls ++ Stopped c.args.node.now ∷ []) c.requires.lines ∙ ap (λ (n : NodeId). Stopped n ∷ []) (sym named))
     (c.in-Ok-Stops.ensures.ok run x d up host left logged told)
 
 pub returns-in-Err-clause-err : goal.returns-in-Err-clause-err
