@@ -56,20 +56,20 @@ module _ (c : Layout) (d : ℕ) (s : CoordDurable) (v : CoordVolatile) where
 
   row_is : (from : Party) (m : Msg) → IsEmptyIfSpent (coord_row c d s v from m)
   row_is from (Propose t b o) =
-      never _ (in_case (outcome_of s.outcomes t) _ _
+      never (coord_row c d s v from (Propose t b o)) (in_case (outcome_of s.outcomes t) _ _
       (either_way (nat_lt b (promise_of s.promises t)) _ _ refl (in_case (accepted_at (found nat_cmp s.accepted t) b) (takes_proposal c d v t b o) _ (proposal_is t b o) (λ old. refl)))
       (λ o. refl))
-  row_is from (Prepared t sh reason) = never _ (either_way (is_shard c sh) (on_prepared c d s v t sh reason) _ (prepared_is t sh reason) refl)
-  row_is from (Ask t b) = never _ (in_case (outcome_of s.outcomes t) _ _ (either_way (nat_lt b (promise_of s.promises t)) _ _ refl refl) (λ o. refl))
+  row_is from (Prepared t sh reason) = never (coord_row c d s v from (Prepared t sh reason)) (either_way (is_shard c sh) (on_prepared c d s v t sh reason) _ (prepared_is t sh reason) refl)
+  row_is from (Ask t b) = never (coord_row c d s v from (Ask t b)) (in_case (outcome_of s.outcomes t) _ _ (either_way (nat_lt b (promise_of s.promises t)) _ _ refl refl) (λ o. refl))
   row_is from (Promise t b e report) =
-      never _ (either_way (is_dc c e) (on_promise c s v t b e report) _ (in_case (waiting_takeover s v t b e) _ _ refl (λ k. in_case (chooses c (hears k e report)) _ _ refl (λ o. refl))) refl)
+      never (coord_row c d s v from (Promise t b e report)) (either_way (is_dc c e) (on_promise c s v t b e report) _ (in_case (waiting_takeover s v t b e) _ _ refl (λ k. in_case (chooses c (hears k e report)) _ _ refl (λ o. refl))) refl)
   row_is from (Voted t b e o) =
-      never _ (either_way (is_dc c e) (on_voted c d s v t b e o) _ (in_case (outcome_of s.outcomes t) _ _ (either_way (is_decided_by c (tally_of v t) b e o) _ _ refl refl) (λ u. refl)) refl)
-  row_is from (Decided t o) = never _ (in_case (outcome_of s.outcomes t) _ _ refl (λ u. refl))
+      never (coord_row c d s v from (Voted t b e o)) (either_way (is_dc c e) (on_voted c d s v t b e o) _ (in_case (outcome_of s.outcomes t) _ _ (either_way (is_decided_by c (tally_of v t) b e o) _ _ refl refl) (λ u. refl)) refl)
+  row_is from (Decided t o) = never (coord_row c d s v from (Decided t o)) (in_case (outcome_of s.outcomes t) _ _ refl (λ u. refl))
   row_is from (Abandon t) = at_decided (outcome_of s.outcomes t) (takes_over c d s v t false) _ (takes_is t false) (λ o _. refl)
   row_is from (CatchAsk place) = λ _. refl
   row_is from (CatchPage e place page) =
-      never _ (either_way (is_dc c e) (on_catch_page c d s v e place page) _ (either_way (is_next_coord_page d v e place page) _ _ refl refl) refl)
+      never (coord_row c d s v from (CatchPage e place page)) (either_way (is_dc c e) (on_catch_page c d s v e place page) _ (either_way (is_next_coord_page d v e place page) _ _ refl refl) refl)
   row_is from _ = λ _. refl
 
   pub spent_logs : (cause : NodeCause) → IsEmptyIfSpent (coord_act c d s v cause)
