@@ -1,5 +1,5 @@
 -- Why a coordinator did not act in an event.
-use Rattle.std.proofs.Common.{◌≡◌, ℕ, Bool, true, false, List, [], Option, None, Some, refl, ◌∙◌, ap}
+use Rattle.std.proofs.Common.{◌≡◌, ℕ, Bool, true, List, [], Option, None, Some, refl, ◌∙◌, ap}
 use Rattle.std.specs.Prelude.{slice_get, if◌then◌else◌}
 use Rattle.rc_ids.specs.Cluster.{is_dc}
 use Rattle.rc_record.specs.declared.record.Record.{Record}
@@ -8,13 +8,13 @@ use Rattle.rc_report.specs.declared.fault.Which.TheVariants.{Ballots}
 use Rattle.rc_runs.specs.declared.event.Event.{Event}
 use Rattle.rc_protocol.specs.Coordinator.{CoordAct}
 use Rattle.rc_protocol.specs.Nodes.{CoordNode, coord_index}
-use Rattle.rc_runs.specs.World.{ByCoord, Course, Goes, Stops, along, deed, sends_of}
+use Rattle.rc_runs.specs.World.{ByCoord, Goes, Stops, along, deed, sends_of}
 use Rattle.rc_runs.specs.Refusals.{worn_out}
 use Rattle.rc_runs.specs.Devices.{Device}
 use Rattle.rc_runs.specs.Session.{Session, with_change}
 use Rattle.rc_host.specs.AnyNode.{NodeDurable, of_coord}
 use Rattle.rc_host.specs.Standing.{Standing}
-use Rattle.rc_host.specs.Hosts.{Sight, Run, IsHost, StopsOn}
+use Rattle.rc_host.specs.Hosts.{Sight, Run, IsHost}
 use Rattle.rc_host.specs.declared.host.Host.{Host}
 use Rattle.rc_node.specs.Acts.{coord_does}
 use Rattle.rc_world.specs.declared.fault.WorldFault.{WorldFault}

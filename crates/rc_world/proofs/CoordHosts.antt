@@ -9,16 +9,15 @@ use Rattle.rc_record.specs.declared.record.Record.{Record}
 use Rattle.rc_record.specs.CoordState.{CoordDurable, coord_applied, new_durable}
 use Rattle.rc_msg.specs.Outboxes.{Outbox}
 use Rattle.rc_msg.specs.Posts.{posted_all}
-use Rattle.rc_protocol.specs.Messages.{Posts}
 use Rattle.rc_protocol.specs.Coordinator.{CoordAct}
 use Rattle.rc_protocol.specs.Acts.{NodeCause, coord_act}
 use Rattle.rc_protocol.specs.Nodes.{CoordNode, coord_index, coord_replayed, logged, applied}
 use Rattle.rc_runs.specs.declared.event.Event.{Event}
 use Rattle.rc_runs.specs.World.{Parties, Course as RunCourse, Goes as GoesOn, Stops as StopsInside, deed, coord_does as coord_does_at, by_coord, with_coord}
 use Rattle.rc_runs.specs.Session.{Session}
-use Rattle.rc_runs.specs.Devices.{Device, appended, course_of, record_length}
+use Rattle.rc_runs.specs.Devices.{Device}
 use Rattle.rc_node.specs.Acts.{coord_does}
-use Rattle.rc_host.specs.AnyNode.{AnyAct, of_coord, node_act, coord_back, OfCoord, OfCoordNow}
+use Rattle.rc_host.specs.AnyNode.{of_coord, node_act, coord_back, OfCoord, OfCoordNow}
 use Rattle.rc_host.specs.Standing.{Standing, coord_standing}
 use Rattle.rc_host.specs.Hosts.{Sight, IsHost, Went, course_in, standing_after, posts_after}
 use Rattle.rc_host.specs.declared.host.Host.{Host}
@@ -126,7 +125,7 @@ module _ {C J D : Type 0} (s : Sight C J D) (r : Runs) (hosts : List (Host C J D
       let goes : course_for its_act.logs v ≡ k = went.course_is in
       let is_deed : deed p z.world.sent e ≡ by_coord p.layout d x cause = is ∙ does z d x v there at_node at_device cause up in
       let left = coord_acted z d x v there at_node at_device e (coord_act p.layout d x.durable x.volatile cause) went.device is_deed done.change done.begins done.starts
-          (subst (λ (a : CoordAct). a.spent ≡ false) (sym same_act) went.left) (subst (λ (a : CoordAct). device_for a.logs v ≡ Some went.device) (sym same_act) went.device_is) in
+      (subst (λ (a : CoordAct). a.spent ≡ false) (sym same_act) went.left) (subst (λ (a : CoordAct). device_for a.logs v ≡ Some went.device) (sym same_act) went.device_is) in
       let mine = subst (λ (a : CoordAct). let j = course_for a.logs v in EventActed z e (with_coord p d (coord_left x a j) (record_left a.logs j)) (slice_set z.coords place went.device) z.shards (sends_left a.logs a.sends j) (lines_left (Coord d) a.logs j)) same_act left in
       record {
         device = went.device;

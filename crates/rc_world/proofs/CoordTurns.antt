@@ -1,5 +1,5 @@
 -- A coordinator among all takes its turn: what its event makes of the session, and why it does not.
-use Rattle.std.proofs.Common.{◌≡◌, ℕ, ◌<◌, Bool, true, false, List, [], ◌∷◌, ◌++◌, length, Option, None, Some, IfSome, Result, Ok, Err, IfOk, IfErr, IsTrue, refl, sym, ◌∙◌, ap, subst}
+use Rattle.std.proofs.Common.{◌≡◌, ℕ, ◌<◌, Bool, true, false, List, [], length, Option, None, Some, IfSome, Result, Ok, Err, IfOk, IfErr, IsTrue, refl, sym, ◌∙◌, ap, subst}
 use Rattle.std.specs.Prelude.{slice_get, slice_set, if◌then◌else◌}
 use Rattle.rc_ids.specs.Tables.{maybe}
 use Rattle.rc_ids.specs.Cluster.{Layout, IsLayout, is_dc}
@@ -15,8 +15,8 @@ use Rattle.rc_report.specs.declared.line.Line.{Line}
 use Rattle.rc_runs.specs.declared.event.Event.{Event}
 use Rattle.rc_protocol.specs.Coordinator.{CoordAct, CoordVolatile}
 use Rattle.rc_protocol.specs.Acts.{NodeCause, coord_act}
-use Rattle.rc_protocol.specs.Nodes.{CoordNode, coord_index, coord_after, coord_stopped, logged}
-use Rattle.rc_runs.specs.World.{Parties, Deed, Idle, ByCoord, Course as RunCourse, Goes as GoesOn, Stops as StopsInside, deed, coord_does, by_coord, with_coord, kept_record}
+use Rattle.rc_protocol.specs.Nodes.{CoordNode, coord_index, logged}
+use Rattle.rc_runs.specs.World.{Parties, Idle, ByCoord, Course as RunCourse, Goes as GoesOn, Stops as StopsInside, deed, coord_does, by_coord, with_coord}
 use Rattle.rc_runs.specs.Devices.{Device}
 use Rattle.rc_runs.specs.Session.{Session}
 use Rattle.rc_host.specs.AnyNode.{AnyAct, NodeDurable, node_act, coord_back, OfCoord, OfCoordNow}
@@ -39,7 +39,7 @@ use Rattle.rc_world.specs.Votes.{kept_by, vote_in}
 use Rattle.rc_world.specs.CoordActed.{Voted, CoordsActed}
 use Rattle.rc_world.specs.Refused.{ActRefused, AsBefore}
 use Rattle.rc_world.proofs.Lists.{set_same, set_at, stands, all_at, all_before, one_changes}
-use Rattle.rc_world.proofs.Courses.{course_for, record_left, lines_left, sends_left}
+use Rattle.rc_world.proofs.Courses.{record_left, lines_left, sends_left}
 use Rattle.rc_world.proofs.ClientActs.{idles}
 use Rattle.rc_world.proofs.CoordActs.{coord_left, coord_here, does}
 use Rattle.rc_world.proofs.CoordHosts.{coord_went}
@@ -110,7 +110,7 @@ module _ {C J D : Type 0} (s : Sight C J D) (r : Runs) (hosts : List (Host C J D
   up_acts out vote up voted =
       let course : Course = voted.course in
       let went = coord_went s r hosts z are layout d there h x v within at_host node_there.1 device_there.1 cause e course new (new_outbox (Node (coord_name place))) out
-          (up_is s gives run h (coord_standing x) v host.host ∙ up) done is_deed voted.turned.went in
+      (up_is s gives run h (coord_standing x) v host.host ∙ up) done is_deed voted.turned.went in
       let act : CoordAct = coord_act r.cluster d x.durable x.volatile cause in
       let k : RunCourse = course_in course in
       let lines : own ≡ lines_left (Coord d) act.logs k = voted.turned.prints ∙ ap (λ (n : NodeId). lines_of n course) named ∙ lines_are (Coord d) act.logs v course went.course_is in

@@ -1,5 +1,5 @@
 -- The vote that a host shows after an act is the one that the act left in the log.
-use Rattle.std.proofs.Common.{◌≡◌, ℕ, zero, suc, ◌+◌, ◌-◌, ◌<◌, nat_lt, Bool, true, false, List, [], ◌∷◌, ◌++◌, length, Option, None, Some, IfSome, refl, sym, ◌∙◌, ap, subst, cond, arith}
+use Rattle.std.proofs.Common.{◌≡◌, ℕ, suc, ◌+◌, ◌-◌, nat_lt, Bool, true, false, List, [], ◌∷◌, ◌++◌, length, Option, None, Some, IfSome, refl, sym, ◌∙◌, ap, subst, cond, arith}
 use Rattle.std.specs.Prelude.{slice_get, if◌then◌else◌}
 use Rattle.std.specs.Ordering.{nat_cmp, is_eq}
 use Rattle.std.proofs.lemmas.Bool.Decides.{nat_tests}
@@ -20,14 +20,13 @@ use Rattle.rc_disk.specs.Calls.{Told}
 use Rattle.rc_disk.specs.declared.power.Power.{Power}
 use Rattle.rc_log.specs.Journals.{State}
 use Rattle.rc_protocol.specs.Acts.{NodeCause, coord_act}
-use Rattle.rc_protocol.specs.Coordinator.{CoordAct}
 use Rattle.rc_protocol.specs.Nodes.{CoordNode, applied}
 use Rattle.rc_coord.specs.Sites.{CoordCore}
 use Rattle.rc_runs.specs.Devices.{Device, Fate, Made, Full, FailsAt, opened, powered, read_once, called, next_fails, read_fails, appended, record_length, course_of}
 use Rattle.rc_runs.specs.Session.{after_append}
 use Rattle.rc_runs.specs.World.{Goes as GoesOn, Stops as StopsInside}
 use Rattle.rc_host.specs.AnyNode.{AnyAct, NodeDurable, OfCoord, OfCoordNow, of_coord, node_act, coord_seen}
-use Rattle.rc_host.specs.Standing.{Standing, coord_standing, course_on, device_after}
+use Rattle.rc_host.specs.Standing.{coord_standing}
 use Rattle.rc_host.specs.Hosts.{Sight, Run, Went, CountsOn, sight, count_in}
 use Rattle.rc_host.specs.declared.host.Host.{Host}
 use Rattle.rc_host.specs.declared.host.Host.TheVariants.{Up, Opened, Down, Lent}
@@ -35,7 +34,7 @@ use Rattle.rc_host.specs.declared.host.Course.{Course}
 use Rattle.rc_host.specs.declared.host.Course.TheVariants.{Goes, Stops}
 use Rattle.rc_node.specs.Acts.{coord_does}
 use Rattle.rc_world.specs.declared.votes.Vote.{Vote}
-use Rattle.rc_world.specs.Votes.{votes_on, IsNoVote, IsVoteOn, vote_for, vote_in, kept_by, vote_since, last_record, vote_if_up, vote_if_opened, vote_behind}
+use Rattle.rc_world.specs.Votes.{votes_on, IsNoVote, IsVoteOn, vote_for, vote_in, kept_by, vote_since, last_record, vote_if_up, vote_behind}
 use Rattle.rc_world.proofs.VoteRows.{no_vote, vote_on}
 
 -- A COORDINATOR THAT GOES ON
@@ -150,10 +149,10 @@ module _ {J D : Type 0} (state : J → State) (told : D → Option Told) (conten
   votes (Down disk) (Stops false) up counted again has counts went = refl
   votes Lent course up counted again has counts went = absurd went.host
 
-  pub vote_is : (name : NodeId) → name ≡ Coord dc → (new : Host (CoordCore J) J D) (course : Course) → x.up ≡ true → before ≡ count_in s old → ((r : Record) → HasRecord r → decoded (record_bytes r) ≡ Some r)
-      → let a = node_act c name (OfCoord x.durable) (OfCoordNow x.volatile) cause in IfSome a.logs HasRecord → CountsOn s old new a → Went s gives run course new one two (coord_standing x) d a
-      → vote_behind state new course (votes_on cause) before ≡ vote_in (kept_by a.logs course)
-  vote_is name named new course up counted again =
+  pub vote_is : (vote : Option Vote) (name : NodeId) → name ≡ Coord dc → (new : Host (CoordCore J) J D) (course : Course) → vote ≡ vote_behind state new course (votes_on cause) before → x.up ≡ true → before ≡ count_in s old
+      → ((r : Record) → HasRecord r → decoded (record_bytes r) ≡ Some r)
+      → let a = node_act c name (OfCoord x.durable) (OfCoordNow x.volatile) cause in IfSome a.logs HasRecord → CountsOn s old new a → Went s gives run course new one two (coord_standing x) d a → vote ≡ vote_in (kept_by a.logs course)
+  vote_is vote name named new course shown up counted again =
       let its : node_act c name (OfCoord x.durable) (OfCoordNow x.volatile) cause ≡ act = ap (λ (n : NodeId). node_act c n (OfCoord x.durable) (OfCoordNow x.volatile) cause) named in
-      subst (λ (a : AnyAct). IfSome a.logs HasRecord → CountsOn s old new a → Went s gives run course new one two (coord_standing x) d a → vote_behind state new course (votes_on cause) before ≡ vote_in (kept_by a.logs course)) (sym its)
-      (votes new course up counted again)
+      subst (λ (a : AnyAct). IfSome a.logs HasRecord → CountsOn s old new a → Went s gives run course new one two (coord_standing x) d a → vote ≡ vote_in (kept_by a.logs course)) (sym its)
+      (λ has counts went. shown ∙ votes new course up counted again has counts went)

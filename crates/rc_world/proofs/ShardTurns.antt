@@ -1,7 +1,6 @@
 -- A shard server among all takes its turn: what its event makes of the session.
-use Rattle.std.proofs.Common.{◌≡◌, ℕ, ◌<◌, ◌≤◌, Bool, true, false, List, [], ◌∷◌, ◌++◌, length, Option, None, Some, IfSome, Result, Ok, Err, IfOk, IfErr, IsTrue, refl, sym, ◌∙◌, ap, subst, arith}
+use Rattle.std.proofs.Common.{◌≡◌, ℕ, ◌<◌, Bool, true, false, List, [], length, Option, None, Some, IfSome, IsTrue, refl, sym, ◌∙◌, ap, subst}
 use Rattle.std.specs.Prelude.{slice_get, slice_set, if◌then◌else◌, ◌&&◌}
-use Rattle.std.specs.List.{AllByRecursion}
 use Rattle.rc_ids.specs.Tables.{maybe}
 use Rattle.rc_ids.specs.Cluster.{Layout, IsLayout, is_dc, is_shard}
 use Rattle.rc_ids.specs.declared.names.NodeId.{NodeId}
@@ -12,17 +11,16 @@ use Rattle.rc_record.specs.Spelling.{HasRecord}
 use Rattle.rc_msg.specs.Outboxes.{Outbox, new_outbox}
 use Rattle.rc_msg.specs.Posts.{posted_all}
 use Rattle.rc_report.specs.declared.line.Line.{Line}
-use Rattle.rc_report.specs.declared.line.Line.TheVariants.{Stopped}
 use Rattle.rc_runs.specs.declared.event.Event.{Event}
 use Rattle.rc_protocol.specs.Shard.{ShardAct, ShardDurable, ShardVolatile}
 use Rattle.rc_protocol.specs.Acts.{NodeCause, shard_act}
 use Rattle.rc_protocol.specs.Nodes.{ShardNode, shard_index}
-use Rattle.rc_runs.specs.World.{Parties, Deed, Idle, ByShard, deed, shard_does, by_shard, shard_at, is_shard_of, Stops as StopsInside}
+use Rattle.rc_runs.specs.World.{Parties, Idle, ByShard, deed, shard_does, by_shard, is_shard_of}
 use Rattle.rc_runs.specs.Devices.{Device}
 use Rattle.rc_runs.specs.Session.{Session}
 use Rattle.rc_host.specs.AnyNode.{AnyAct, NodeDurable, node_act, shard_back, OfShard, OfShardNow}
 use Rattle.rc_host.specs.Standing.{Standing, shard_standing}
-use Rattle.rc_host.specs.Hosts.{Sight, Run, IsHost, IsToldBy, HasReadsLeft, is_up, course_in}
+use Rattle.rc_host.specs.Hosts.{Sight, Run, IsHost, IsToldBy, is_up, course_in}
 use Rattle.rc_host.specs.declared.host.Host.{Host}
 use Rattle.rc_host.specs.declared.host.Host.TheVariants.{Up, Opened, Down, Lent}
 use Rattle.rc_host.specs.declared.host.Course.{Course}
@@ -31,7 +29,7 @@ use Rattle.rc_grammar.specs.Acts.{HasNodeCause}
 use Rattle.rc_grammar.specs.Shards.{HasShardDurable, HasShardVolatile, HasShardNode, ShardSpeaks}
 use Rattle.rc_grammar.specs.Worlds.{HasWorld}
 use Rattle.rc_world.specs.Places.{shard_name, AreAt}
-use Rattle.rc_world.specs.Hosts.{Runs, run_at, IsShard, ShardsAreTold, HaveReadsLeft}
+use Rattle.rc_world.specs.Hosts.{Runs, run_at, IsShard, ShardsAreTold}
 use Rattle.rc_world.specs.Steps.{EventActed, IsDone}
 use Rattle.rc_world.specs.Turns.{Turned, TurnRefused, lines_of}
 use Rattle.rc_world.specs.Refused.{ActRefused, AsBefore}
@@ -43,7 +41,7 @@ use Rattle.rc_world.proofs.Courses.{course_for, lines_left, sends_left}
 use Rattle.rc_world.proofs.ClientActs.{idles}
 use Rattle.rc_world.proofs.ShardActs.{shard_left, shard_here, does}
 use Rattle.rc_world.proofs.ShardFaults.{shard_refused}
-use Rattle.rc_world.proofs.ShardHosts.{shard_went, ShardWent}
+use Rattle.rc_world.proofs.ShardHosts.{shard_went}
 
 split : (a b : Bool) → (a && b) ≡ true → IsTrue a × IsTrue b
 split true true is = (refl, refl)
@@ -114,7 +112,7 @@ module _ {S J D : Type 0} (s : Sight S J D) (r : Runs) (hosts : List (Host S J D
   up_acts : (out : Outbox) (course : Course) → is_up h ≡ true → Turned s gives run new out course own (shard_standing x) v (node_act r.cluster (shard_name r.cluster place) (OfShard x.durable) (OfShardNow x.volatile) cause) → ShardsActed s r z e (ShardServer d sh) (slice_set hosts place new) out own
   up_acts out course up turned =
       let went = shard_went s r hosts z are layout d sh there named h x v within at_host node_there.1 device_there.1 cause e course new (new_outbox (Node (shard_name r.cluster place))) out
-          (up_is s gives run h (shard_standing x) v host.host ∙ up) done is_deed turned.went in
+      (up_is s gives run h (shard_standing x) v host.host ∙ up) done is_deed turned.went in
       let act : ShardAct = shard_act r.cluster d sh x.durable x.volatile cause in
       let lines : own ≡ lines_left (ShardServer d sh) act.logs (course_in course) =
       turned.prints ∙ ap (λ (n : NodeId). lines_of n course) named ∙ lines_are (ShardServer d sh) act.logs v course went.course_is in

@@ -1,5 +1,5 @@
 -- How an event went at a host, from what the host answers.
-use Rattle.std.proofs.Common.{◌≡◌, ℕ, List, [], ◌∷◌, refl, sym, ap, subst, ◌∙◌}
+use Rattle.std.proofs.Common.{◌≡◌, ℕ, List, refl, sym, subst}
 use Rattle.rc_ids.specs.declared.names.Party.TheVariants.{Node}
 use Rattle.rc_msg.specs.Outboxes.{Outbox, new_outbox}
 use Rattle.rc_report.specs.declared.line.Line.{Line}

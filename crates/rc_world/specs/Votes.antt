@@ -1,5 +1,5 @@
 -- Which acts of a coordinator can be votes for a commit, and the vote that an act left in the log.
-use Rattle.std.specs.Prelude.{◌≡◌, ◌-◌, ℕ, nat_lt, Bool, true, false, List, length, slice_get, Option, Some, None, if◌then◌else◌}
+use Rattle.std.specs.Prelude.{◌≡◌, ◌-◌, ℕ, nat_lt, List, length, slice_get, Option, Some, None, if◌then◌else◌}
 use Rattle.std.specs.Ordering.{nat_cmp}
 use Rattle.rc_ids.specs.Tables.{found, maybe}
 use Rattle.rc_body.specs.declared.decision.Decision.{Decision}

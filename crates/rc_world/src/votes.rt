@@ -45,7 +45,11 @@ fn vote_for(tx: TxId, accepted: &(Ballot, Decision)) -> Option<Vote>
 }
 
 /// The vote of a coordinator for the commit of the transaction, if its journal has more records than before.
-pub(crate) fn vote_since<J: Journal>(coord: &Coord<J>, tx: Option<TxId>, before: u64) -> Option<Vote>
+pub(crate) fn vote_since<J: Journal>(
+    coord: &Coord<J>,
+    tx: Option<TxId>,
+    before: u64,
+) -> Option<Vote>
     ensures { result ≡ votes_spec.vote_since (J.state coord.now.journal).count coord.now.durable tx before }
 {
     if coord.count() <= before {
@@ -56,10 +60,10 @@ pub(crate) fn vote_since<J: Journal>(coord: &Coord<J>, tx: Option<TxId>, before:
 }
 
 /// The vote that a record is.
-fn vote_in(record: &Record) -> Option<Vote>
-    ensures { result ≡ votes_spec.vote_in (Some record.now) }
+fn vote_in(entry: &Record) -> Option<Vote>
+    ensures { result ≡ votes_spec.vote_in (Some entry.now) }
 {
-    match record {
+    match entry {
         Record::Accepted(tx, ballot, Decision::Commit(_)) => Some(Vote {
             tx: *tx,
             ballot: *ballot,

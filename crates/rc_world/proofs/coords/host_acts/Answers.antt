@@ -1,4 +1,4 @@
-use Rattle.std.proofs.Common.{◌≡◌, ◌∙◌, ap}
+use Rattle.std.proofs.Common.{◌∙◌, ap}
 use Rattle.rc_ids.specs.declared.names.Party.TheVariants.{Node}
 use Rattle.rc_msg.specs.Outboxes.{new_outbox}
 use Rattle.rc_log.specs.contracts.log.LogJournal.TheImpl.{ghosts}
@@ -16,9 +16,8 @@ returns-in-Ok-vote_left-clause-ok g c = λ run dc x d named coordinator up up_ho
     record {
       course = c.in-Ok.course;
       turned = turned;
-      votes = c.in-Ok-vote_left.ensures.value
-          ∙ vote_is (ghosts g.row.D g.D.Disk g.D.Disk-dict g.D.Destruct-dict).state g.D.Disk.told g.D.Disk.content g.D.Disk.power run.cluster dc x (cause_of c.args.cause.now) (coord_back run.node run.cluster) run d c.count_of-before.result
-          c.args.host.now (new_outbox (Node run.node)) c.in-Ok.out run.node coordinator c.turn.new.host c.in-Ok.course up c.count_of-before.ensures c.record_laws.ensures.again logged
+      votes = vote_is (ghosts g.row.D g.D.Disk g.D.Disk-dict g.D.Destruct-dict).state g.D.Disk.told g.D.Disk.content g.D.Disk.power run.cluster dc x (cause_of c.args.cause.now) (coord_back run.node run.cluster) run d c.count_of-before.result
+          c.args.host.now (new_outbox (Node run.node)) c.in-Ok.out c.in-Ok-vote_left.vote run.node coordinator c.turn.new.host c.in-Ok.course c.in-Ok-vote_left.ensures.value up c.count_of-before.ensures c.record_laws.ensures.again logged
           (c.in-Ok.ensures.counts run (coord_standing x) d up_host host) turned.went;
     }
 

@@ -1,11 +1,10 @@
-use Rattle.std.proofs.Common.{◌≡◌, ◌∙◌, sym, ap, List, [], ◌∷◌, ◌++◌}
+use Rattle.std.proofs.Common.{◌∙◌, sym, ap, List, [], ◌∷◌, ◌++◌}
 use Rattle.rc_ids.specs.declared.names.NodeId.{NodeId}
 use Rattle.rc_ids.specs.declared.names.Party.TheVariants.{Node as NodeParty}
 use Rattle.rc_msg.specs.Outboxes.{new_outbox}
 use Rattle.rc_report.specs.declared.line.Line.{Line}
 use Rattle.rc_report.specs.declared.line.Line.TheVariants.{Stopped}
 use Rattle.rc_host.specs.declared.host.Course.TheVariants.{Goes, Stops}
-use Rattle.rc_world.specs.Turns.{lines_of}
 use Rattle.rc_world.proofs.Turning.{turned, refused}
 use Rattle.rc_world.proofs.turns.turn.Goals as goal
 
