@@ -9,16 +9,15 @@ use Rattle.rc_record.specs.declared.record.Record.{Record}
 use Rattle.rc_record.specs.CoordState.{CoordDurable, coord_applied, new_durable}
 use Rattle.rc_msg.specs.Outboxes.{Outbox}
 use Rattle.rc_msg.specs.Posts.{posted_all}
-use Rattle.rc_protocol.specs.Messages.{Posts}
 use Rattle.rc_protocol.specs.Coordinator.{CoordAct}
 use Rattle.rc_protocol.specs.Acts.{NodeCause, coord_act}
 use Rattle.rc_protocol.specs.Nodes.{CoordNode, coord_index, coord_replayed, logged, applied}
 use Rattle.rc_runs.specs.declared.event.Event.{Event}
 use Rattle.rc_runs.specs.World.{Parties, Course as RunCourse, Goes as GoesOn, Stops as StopsInside, deed, coord_does as coord_does_at, by_coord, with_coord}
 use Rattle.rc_runs.specs.Session.{Session}
-use Rattle.rc_runs.specs.Devices.{Device, appended, course_of, record_length}
+use Rattle.rc_runs.specs.Devices.{Device}
 use Rattle.rc_node.specs.Acts.{coord_does}
-use Rattle.rc_host.specs.AnyNode.{AnyAct, of_coord, node_act, coord_back, OfCoord, OfCoordNow}
+use Rattle.rc_host.specs.AnyNode.{of_coord, node_act, coord_back, OfCoord, OfCoordNow}
 use Rattle.rc_host.specs.Standing.{Standing, coord_standing}
 use Rattle.rc_host.specs.Hosts.{Sight, IsHost, Went, course_in, standing_after, posts_after}
 use Rattle.rc_host.specs.declared.host.Host.{Host}
@@ -27,7 +26,7 @@ use Rattle.rc_host.specs.declared.host.Course.TheVariants.{Goes, Stops}
 use Rattle.rc_world.specs.Places.{coord_name, AreAt}
 use Rattle.rc_world.specs.Hosts.{Runs, run_at, IsCoord}
 use Rattle.rc_world.specs.Steps.{EventActed, IsDone}
-use Rattle.rc_world.proofs.Lists.{one_changes}
+use Rattle.rc_world.proofs.Lists.{one_changes, coord_named}
 use Rattle.rc_world.proofs.Courses.{course_for, device_for, sends_left, record_left, lines_left}
 use Rattle.rc_world.proofs.CoordActs.{coord_left, coord_acted, does}
 
@@ -81,11 +80,14 @@ replay_left x act (StopsInside kept) is = by_logs act.logs refl
     by_logs (Some r) some = rw some (goes (if kept then Some r else None))
 
 -- AMONG ALL
-pub inside : (c : Layout) (d : ℕ) → 1 ≤ d → coord_index d < c.dcs → is_dc c d ≡ true
-inside c d low within = grind (arith, nat_tests)
+low_dc : (c : Layout) (d : ℕ) → is_dc c d ≡ true → 1 ≤ d
+low_dc c d known = grind (arith, nat_tests)
+
+pub name_is : (c : Layout) (d : ℕ) → is_dc c d ≡ true → coord_name (coord_index d) ≡ Coord d
+name_is c d known = coord_named d (low_dc c d known)
 
 module _ {C J D : Type 0} (s : Sight C J D) (r : Runs) (hosts : List (Host C J D)) (z : Session) (are : AreAt (IsCoord s r) hosts z.world.parties.coords z.coords) (layout : z.world.parties.layout ≡ r.cluster)
-    (few : length hosts ≡ r.cluster.dcs) (d : ℕ) (low : 1 ≤ d) (h : Host C J D) (x : CoordNode) (v : Device) (within : coord_index d < length hosts) (at_host : slice_get hosts (coord_index d) ≡ Some h)
+    (d : ℕ) (known : is_dc r.cluster d ≡ true) (h : Host C J D) (x : CoordNode) (v : Device) (within : coord_index d < length hosts) (at_host : slice_get hosts (coord_index d) ≡ Some h)
     (at_node : slice_get z.world.parties.coords (coord_index d) ≡ Some x) (at_device : slice_get z.coords (coord_index d) ≡ Some v) (cause : NodeCause) where
   abbrev p : Parties
   p = z.world.parties
@@ -107,7 +109,7 @@ module _ {C J D : Type 0} (s : Sight C J D) (r : Runs) (hosts : List (Host C J D
     pub posts : after ≡ posted_all before (sends_left its_act.logs its_act.sends (course_in course))
 
   there : is_dc p.layout d ≡ true
-  there = inside p.layout d low (subst (λ (n : ℕ). place < n) (few ∙ ap (λ (c : Layout). c.dcs) (sym layout)) within)
+  there = ap (λ (c : Layout). is_dc c d) layout ∙ known
 
   same_act : coord_act p.layout d x.durable x.volatile cause ≡ its_act
   same_act = ap (λ (c : Layout). coord_act c d x.durable x.volatile cause) layout
@@ -116,13 +118,14 @@ module _ {C J D : Type 0} (s : Sight C J D) (r : Runs) (hosts : List (Host C J D
       → Went s (coord_back (coord_name place) r.cluster) (run_at r (coord_name place)) course host before after (coord_standing x) v (node_act r.cluster (coord_name place) (OfCoord x.durable) (OfCoordNow x.volatile) cause)
       → CoordWent e course host before after
   coord_went e course host before after up done is its =
+      let low : 1 ≤ d = low_dc r.cluster d known in
       let number : suc place ≡ d = omega (arith, low) in
       let went = subst (λ (n : ℕ). Went s (coord_back (coord_name place) r.cluster) (run_at r (coord_name place)) course host before after (coord_standing x) v (of_coord (coord_does x.durable (coord_act r.cluster n x.durable x.volatile cause)))) number its in
       let k : RunCourse = course_in course in
       let goes : course_for its_act.logs v ≡ k = went.course_is in
       let is_deed : deed p z.world.sent e ≡ by_coord p.layout d x cause = is ∙ does z d x v there at_node at_device cause up in
       let left = coord_acted z d x v there at_node at_device e (coord_act p.layout d x.durable x.volatile cause) went.device is_deed done.change done.begins done.starts
-          (subst (λ (a : CoordAct). a.spent ≡ false) (sym same_act) went.left) (subst (λ (a : CoordAct). device_for a.logs v ≡ Some went.device) (sym same_act) went.device_is) in
+      (subst (λ (a : CoordAct). a.spent ≡ false) (sym same_act) went.left) (subst (λ (a : CoordAct). device_for a.logs v ≡ Some went.device) (sym same_act) went.device_is) in
       let mine = subst (λ (a : CoordAct). let j = course_for a.logs v in EventActed z e (with_coord p d (coord_left x a j) (record_left a.logs j)) (slice_set z.coords place went.device) z.shards (sends_left a.logs a.sends j) (lines_left (Coord d) a.logs j)) same_act left in
       record {
         device = went.device;

@@ -10,6 +10,8 @@ pub mod ShardHosts
 pub mod MailFacts
 pub mod PostFacts
 pub mod Turning
+pub mod Refusals
+pub mod ShardFaults
 pub mod ShardTurns
 pub mod Refusing
 pub mod Answering
@@ -20,3 +22,7 @@ pub mod Told
 pub mod Wellness
 pub mod Noded
 pub mod Stepping
+pub mod SpentRows
+pub mod CoordFaults
+pub mod CoordVotes
+pub mod CoordTurns

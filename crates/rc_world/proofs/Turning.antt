@@ -1,5 +1,5 @@
 -- How an event went at a host, from what the host answers.
-use Rattle.std.proofs.Common.{◌≡◌, ℕ, List, [], ◌∷◌, refl, sym, ap, subst, ◌∙◌}
+use Rattle.std.proofs.Common.{◌≡◌, ℕ, List, refl, sym, subst}
 use Rattle.rc_ids.specs.declared.names.Party.TheVariants.{Node}
 use Rattle.rc_msg.specs.Outboxes.{Outbox, new_outbox}
 use Rattle.rc_report.specs.declared.line.Line.{Line}
@@ -16,9 +16,8 @@ use Rattle.rc_world.specs.Turns as turns
 use Rattle.rc_world.specs.Turns.{Turned, TurnRefused, Unturned, lines_of, fault_of}
 
 module _ {N J D : Type 0} (s : Sight N J D) (gives : List (List ℕ) → NodeDurable → Type 0) (run : Run) (new : Host N J D) (x : Standing) (d : Device) (act : AnyAct) where
-  pub turned : (course k : Course) (before after : Outbox) (printed : List Line) → course ≡ k → before ≡ new_outbox (Node run.node) → printed ≡ lines_of run.node k → Went s gives run course new before after x d act → Turned s gives run new after printed x d act
+  pub turned : (course k : Course) (before after : Outbox) (printed : List Line) → course ≡ k → before ≡ new_outbox (Node run.node) → printed ≡ lines_of run.node k → Went s gives run course new before after x d act → Turned s gives run new after k printed x d act
   turned course k before after printed is from prints went = record {
-    course = k;
     went = subst (λ (o : Outbox). Went s gives run k new o after x d act) from (subst (λ (j : Course). Went s gives run j new before after x d act) is went);
     prints = prints;
   }

@@ -12,3 +12,5 @@ pub mod Wells
 pub mod Worlds
 pub mod Words
 pub mod Limits
+pub mod Refused
+pub mod CoordActed

@@ -1,5 +1,5 @@
 -- How an event went at the host of a node that was up.
-use Rattle.std.specs.Prelude.{◌≡◌, ℕ, true, List, [], ◌∷◌, Option, None}
+use Rattle.std.specs.Prelude.{◌≡◌, ℕ, true, List, [], ◌∷◌, None}
 use Rattle.rc_ids.specs.declared.names.NodeId.{NodeId}
 use Rattle.rc_ids.specs.declared.names.Party.TheVariants.{Node}
 use Rattle.rc_msg.specs.Outboxes.{Outbox, new_outbox}
@@ -23,11 +23,9 @@ lines_of node Goes = []
 lines_of node (Stops kept) = Stopped node ∷ []
 
 -- the node did its act, or stopped inside it, and that is printed
-pub record Turned {N J D : Type 0} (s : Sight N J D) (gives : List (List ℕ) → NodeDurable → Type 0) (run : Run) (new : Host N J D) (out : Outbox) (printed : List Line) (x : Standing) (d : Device) (act : AnyAct) : Type 0 where
-  pub course : Course
+pub record Turned {N J D : Type 0} (s : Sight N J D) (gives : List (List ℕ) → NodeDurable → Type 0) (run : Run) (new : Host N J D) (out : Outbox) (course : Course) (printed : List Line) (x : Standing) (d : Device) (act : AnyAct) : Type 0 where
   pub went : Went s gives run course new (new_outbox (Node run.node)) out x d act
   pub prints : printed ≡ lines_of run.node course
-
 
 -- what a fault of a host is to its world
 abbrev pub fault_of : HostFault → WorldFault

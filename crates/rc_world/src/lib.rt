@@ -3,6 +3,7 @@
 
 mod clients;
 mod commands;
+mod coords;
 mod fault;
 mod mail;
 mod nodes;

@@ -9,14 +9,15 @@ ghost use Rattle.rc_runs.specs.World.{deed, shard_does, is_shard_of as is_of_wor
 ghost use Rattle.rc_ids.specs.declared.names.NodeId.TheVariants.{Shard as ShardServer};
 ghost use Rattle.rc_host.specs.AnyNode.{shard_seen};
 ghost use Rattle.rc_host.specs.Causes.{cause_of};
-ghost use Rattle.rc_host.specs.Hosts.{sight};
+ghost use Rattle.rc_host.specs.Hosts.{CanRead, sight};
 ghost use Rattle.rc_grammar.specs.Acts.{HasNodeCause};
 ghost use Rattle.rc_grammar.specs.Worlds.{HasWorld};
-ghost use Rattle.rc_world.specs.Places.{shard_name, AreAt};
+ghost use Rattle.rc_world.specs.Places.{shard_name, AreAt, AllAt};
 ghost use Rattle.rc_world.specs.Wells.{is_well};
 ghost use Rattle.rc_world.specs.Hosts.{Runs, IsShard, ShardsAreTold, HaveReadsLeft};
 ghost use Rattle.rc_world.specs.Steps.{IsDone};
 ghost use Rattle.rc_world.specs.Acted.{ShardsActed};
+ghost use Rattle.rc_world.specs.Refused.{ActRefused};
 
 use crate::WorldFault;
 use crate::turns::turn;
@@ -69,7 +70,16 @@ pub(crate) fn shard_acts<D: Disk>(
         → AreAt (IsShard (sight shard_seen ⟦<Log<D> as Journal>⟧.state D.told D.content D.power) r) shards.old.items z.world.parties.shards z.shards → IsDone z e → deed z.world.parties z.world.sent e ≡ shard_does z.world.parties dc shard (cause_of cause.now)
         → HasNodeCause (cause_of cause.now) → HaveReadsLeft r (shard_name r.cluster) z.shards → ShardsAreTold (sight shard_seen ⟦<Log<D> as Journal>⟧.state D.told D.content D.power) r shards.new.items
         → IfOk result (λ out. ShardsActed (sight shard_seen ⟦<Log<D> as Journal>⟧.state D.told D.content D.power) r z e node.now shards.new.items out lines.new) }
+    ensures err { (r : Runs) (z : Session) (e : AnyEvent) (dc shard : ℕ) → r.cluster ≡ cluster.now → z.world.parties.layout ≡ r.cluster → HasWorld z.world → node.now ≡ ShardServer dc shard → is_of_world r.cluster dc shard ≡ true → place ≡ shard_index r.cluster dc shard
+        → AreAt (IsShard (sight shard_seen ⟦<Log<D> as Journal>⟧.state D.told D.content D.power) r) shards.old.items z.world.parties.shards z.shards → IsDone z e → deed z.world.parties z.world.sent e ≡ shard_does z.world.parties dc shard (cause_of cause.now)
+        → HasNodeCause (cause_of cause.now) → HaveReadsLeft r (shard_name r.cluster) z.shards → ShardsAreTold (sight shard_seen ⟦<Log<D> as Journal>⟧.state D.told D.content D.power) r shards.new.items
+        → IfErr result (λ fault. ActRefused z e (AreAt (IsShard (sight shard_seen ⟦<Log<D> as Journal>⟧.state D.told D.content D.power) r) shards.new.items z.world.parties.shards z.shards) fault) }
+    ensures grew { (r : Runs) → AllAt (λ _ h. CanRead (sight shard_seen ⟦<Log<D> as Journal>⟧.state D.told D.content D.power) h) shards.old.items → ShardsAreTold (sight shard_seen ⟦<Log<D> as Journal>⟧.state D.told D.content D.power) r shards.new.items
+        → ShardsAreTold (sight shard_seen ⟦<Log<D> as Journal>⟧.state D.told D.content D.power) r shards.old.items }
 {
     shards_speak();
-    turn(alloc, &mut shards[place], node, cause, lines)
+    match turn(alloc, &mut shards[place], node, cause, lines) {
+        Ok((out, _)) => Ok(out),
+        Err(fault) => Err(fault),
+    }
 }

@@ -1,11 +1,7 @@
 // The votes of a coordinator for commits, as its log has them.
-ghost use Rattle.std.specs.Prelude.{◌≡◌, ◌++◌, ◌∷◌, [], ◌<◌, nat_lt, List, None, Some, IfOk, if◌then◌else◌};
-ghost use Rattle.std.specs.Ordering.{nat_cmp};
-ghost use Rattle.rc_ids.specs.Tables.{found, maybe};
-ghost use Rattle.rc_record.specs.declared.record.Record.{Record as AnyRecord};
-ghost use Rattle.rc_runs.specs.Stored.{records_of};
+ghost use Rattle.std.specs.Prelude.{◌≡◌, Some, IfOk};
 ghost use Rattle.rc_host.specs.Causes.{cause_of};
-ghost use Rattle.rc_world.specs.Votes.{votes_on, vote_for, vote_in};
+ghost use Rattle.rc_world.specs.Votes.{votes_on, last_record};
 ghost use Rattle.rc_world.specs.Votes as votes_spec;
 
 use rc_body::Decision;
@@ -49,12 +45,45 @@ fn vote_for(tx: TxId, accepted: &(Ballot, Decision)) -> Option<Vote>
 }
 
 /// The vote of a coordinator for the commit of the transaction, if its journal has more records than before.
-pub(crate) fn vote_since<J: Journal>(coord: &Coord<J>, tx: Option<TxId>, before: u64) -> Option<Vote>
-    ensures { result ≡ (if nat_lt before (J.state coord.now.journal).count then maybe tx None (λ t. maybe (found nat_cmp coord.now.durable.accepted t) None (votes_spec.vote_for t)) else None) }
+pub(crate) fn vote_since<J: Journal>(
+    coord: &Coord<J>,
+    tx: Option<TxId>,
+    before: u64,
+) -> Option<Vote>
+    ensures { result ≡ votes_spec.vote_since (J.state coord.now.journal).count coord.now.durable tx before }
 {
     if coord.count() <= before {
         return None;
     }
     let tx = tx?;
     vote_for(tx, coord.accepted(tx)?)
+}
+
+/// The vote that a record is.
+fn vote_in(entry: &Record) -> Option<Vote>
+    ensures { result ≡ votes_spec.vote_in (Some entry.now) }
+{
+    match entry {
+        Record::Accepted(tx, ballot, Decision::Commit(_)) => Some(Vote {
+            tx: *tx,
+            ballot: *ballot,
+        }),
+        _ => None,
+    }
+}
+
+/// The vote that the last record of a log is.
+pub(crate) fn vote_at_end(alloc: Global, records: &Blobs) -> Result<Option<Vote>, NoMemory>
+    ensures { IfOk result (λ vote. vote ≡ votes_spec.vote_in (last_record records.now)) }
+{
+    if records.is_empty() {
+        return Ok(None);
+    }
+    let Some(bytes) = records.get(records.len() - 1) else {
+        return Ok(None);
+    };
+    match decode(alloc, bytes.as_bytes())? {
+        Some(record) => Ok(vote_in(&record)),
+        None => Ok(None),
+    }
 }

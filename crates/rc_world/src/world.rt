@@ -4,18 +4,13 @@ ghost use Rattle.std.specs.List.{list_all};
 ghost use Rattle.rc_world.specs.Wells.{is_well};
 
 use crate::clients::Clients;
+use crate::coords::CoordHost;
 use crate::shards::ShardHost;
-use rc_coord::Coord;
 use rc_disk::Farm;
-use rc_host::Host;
 use rc_ids::{Cluster, Party, Sends};
-use rc_log::Log;
 use rc_net::Net;
 use rc_order::Order;
 use std::alloc::Global;
-
-/// A coordinator on its host.
-pub(crate) type CoordHost<D> = Host<Coord<Log<D>>, Log<D>, D>;
 
 /// What a party sends in an event.
 #[derive(Drop)]

@@ -1,11 +1,10 @@
-use Rattle.std.proofs.Common.{◌≡◌, ◌∙◌, sym, ap, List, [], ◌∷◌, ◌++◌}
+use Rattle.std.proofs.Common.{◌∙◌, sym, ap, List, [], ◌∷◌, ◌++◌}
 use Rattle.rc_ids.specs.declared.names.NodeId.{NodeId}
 use Rattle.rc_ids.specs.declared.names.Party.TheVariants.{Node as NodeParty}
 use Rattle.rc_msg.specs.Outboxes.{new_outbox}
 use Rattle.rc_report.specs.declared.line.Line.{Line}
 use Rattle.rc_report.specs.declared.line.Line.TheVariants.{Stopped}
 use Rattle.rc_host.specs.declared.host.Course.TheVariants.{Goes, Stops}
-use Rattle.rc_world.specs.Turns.{lines_of}
 use Rattle.rc_world.proofs.Turning.{turned, refused}
 use Rattle.rc_world.proofs.turns.turn.Goals as goal
 
@@ -16,7 +15,7 @@ returns-in-Ok-Goes-clause-ok g c = λ run x d named up host left logged told.
 
 pub returns-in-Ok-Stops-clause-ok : goal.returns-in-Ok-Stops-clause-ok
 returns-in-Ok-Stops-clause-ok g c = λ run x d named up host left logged told.
-    turned _ _ run _ x d _ c.in-Ok-Stops.field-0 (Stops c.in-Ok-Stops.field-0-0) c.new-out.result _ c.push.new.self c.in-Ok-Stops.field-0-is (c.new-out.ensures ∙ ap (λ (n : NodeId). new_outbox (NodeParty n)) (sym named)) (c.in_ok-push.ensures.ok ∙ ap (λ (ls : List Line). ls ++ Stopped c.args.node.now ∷ []) c.requires.lines ∙ ap (λ (n : NodeId). Stopped n ∷ []) (sym named))
+    turned _ _ run _ x d _ c.in-Ok-Stops.field-0 (Stops c.in-Ok-Stops.kept) c.new-out.result _ c.push.new.self c.in-Ok-Stops.field-0-is (c.new-out.ensures ∙ ap (λ (n : NodeId). new_outbox (NodeParty n)) (sym named)) (c.in_ok-push.ensures.ok ∙ ap (λ (ls : List Line). ls ++ Stopped c.args.node.now ∷ []) c.requires.lines ∙ ap (λ (n : NodeId). Stopped n ∷ []) (sym named))
     (c.in-Ok-Stops.ensures.ok run x d up host left logged told)
 
 pub returns-in-Err-clause-err : goal.returns-in-Err-clause-err
