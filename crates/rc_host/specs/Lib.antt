@@ -2,3 +2,4 @@
 pub mod AnyNode
 pub mod Standing
 pub mod Hosts
+pub mod Disks

@@ -33,6 +33,10 @@ after_stop x act kept = record {
   volatile = new_volatile x.durable;
 }
 
+-- after a stop between two acts
+abbrev pub stopped : Standing → Standing
+stopped x = record x { up = false; volatile = new_volatile x.durable }
+
 -- what the device makes of an act's append: the course of the event, and the device after it, or none where the log could not be opened
 abbrev pub course_on : Device → AnyAct → Course
 course_on d act = maybe act.logs Goes (λ r. course_of (appended d (record_length r)).0)
