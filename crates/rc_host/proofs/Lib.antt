@@ -4,3 +4,4 @@ pub mod OpenFacts
 pub mod Acting
 pub mod Stopping
 pub mod Turning
+pub mod Restarting

@@ -3,3 +3,5 @@ pub mod AnyNode
 pub mod Standing
 pub mod Hosts
 pub mod Disks
+pub mod Restarts
+pub mod ShardLogs

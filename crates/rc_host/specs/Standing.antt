@@ -37,6 +37,10 @@ after_stop x act kept = record {
 abbrev pub stopped : Standing → Standing
 stopped x = record x { up = false; volatile = new_volatile x.durable }
 
+-- a node that is down starts again
+abbrev pub started_again : Standing → Standing
+started_again x = record x { up = true; volatile = new_volatile x.durable }
+
 -- what the device makes of an act's append: the course of the event, and the device after it, or none where the log could not be opened
 abbrev pub course_on : Device → AnyAct → Course
 course_on d act = maybe act.logs Goes (λ r. course_of (appended d (record_length r)).0)

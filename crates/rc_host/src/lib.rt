@@ -3,9 +3,11 @@
 
 mod host;
 mod node;
+mod restarts;
 mod shard;
 mod stops;
 
 pub use host::{Course, Host, HostFault, MOST_LOG_BYTES, deliver};
 pub use node::Node;
+pub use restarts::{RestartFault, restart};
 pub use stops::{arm, crash, into_disk};

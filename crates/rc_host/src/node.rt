@@ -1,17 +1,20 @@
 // What a node is to its host.
-ghost use Rattle.std.specs.Prelude.{◌≡◌, ◌≤◌, ℕ, List, false, OnOk, OnErr, IfOk, IfErr};
+ghost use Rattle.std.specs.Prelude.{◌≡◌, ◌≢◌, ◌≤◌, ℕ, List, false, Result, Ok, Err, OnOk, OnErr, IfOk, IfErr, IsOkAnd};
 ghost use Rattle.rc_ids.specs.declared.names.NodeId.{NodeId as NodeName};
 ghost use Rattle.rc_ids.specs.Cluster.{Layout};
 ghost use Rattle.rc_log.specs.Journals.{with_cut};
 ghost use Rattle.rc_msg.specs.Posts.{posted_all};
+ghost use Rattle.rc_record.specs.declared.fault.ReplayFault.{ReplayFault};
+ghost use Rattle.rc_record.specs.declared.fault.ReplayFault.TheVariants.{NoMemory as OutOfMemory};
 ghost use Rattle.rc_protocol.specs.Acts.{Came, Catches, Takes};
 ghost use Rattle.rc_node.specs.Cores.{HasActed, HasRefused, moved, started};
 ghost use Rattle.rc_host.specs.AnyNode.{AnyNode, NodeDurable, new_volatile, act_of};
 
-use rc_ids::{Cluster, NoMemory, NodeId, Party, TxId};
+use rc_ids::{Blobs, Cluster, NoMemory, NodeId, Party};
 use rc_log::Journal;
 use rc_msg::{Msg, Outbox};
 use rc_node::NodeFault;
+use rc_record::ReplayFault;
 use std::alloc::Global;
 
 /// A node of either kind, on a journal.
@@ -65,4 +68,20 @@ pub trait Node<J: Journal>: Drop {
         requires pick { pick ≤ 3 }
         ensures node { seen self.new ≡ moved (seen self.old) (seen self.old).durable (seen self.old).volatile (seen self.new).journal false }
         ensures armed { J.state (seen self.new).journal ≡ with_cut k pick (J.state (seen self.old).journal) };
+
+    // What a replay of these records gives.
+    ghost replayed: { NodeName → Layout → List (List ℕ) → Result Self.Durable ReplayFault };
+
+    /// What the node's log gives back, or the first record that is refused.
+    fn replay(
+        alloc: Global,
+        node: NodeId,
+        cluster: &Cluster,
+        blobs: &Blobs,
+    ) -> Result<Self::Durable, ReplayFault>
+        ensures ok { IfOk result (λ durable. replayed node cluster.now blobs.now ≡ Ok durable) }
+        ensures err { IfErr result (λ e. e ≢ OutOfMemory → replayed node cluster.now blobs.now ≡ Err e) };
+
+    // Records that give a state back are not refused.
+    ghost gives_back: { (node : NodeName) (c : Layout) (blobs : List (List ℕ)) (s : NodeDurable) → back node c blobs s → IsOkAnd (replayed node c blobs) (λ durable. gives durable ≡ s) };
 }

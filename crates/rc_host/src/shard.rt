@@ -1,14 +1,16 @@
 // A shard server is a node.
 ghost use Rattle.rc_record.specs.InOrder.{shown};
+ghost use Rattle.rc_record.specs.Replay.{shard_replay};
 ghost use Rattle.rc_host.specs.AnyNode.{OfShard, IsShardServer, shard_seen, shard_back};
+ghost use Rattle.rc_host.specs.ShardLogs.{shard_gives_back};
 
 use crate::Node;
-use rc_ids::{Cluster, NoMemory, NodeId, Party};
+use rc_ids::{Blobs, Cluster, NoMemory, NodeId, Party};
 use rc_locks::LockTable;
 use rc_log::Journal;
 use rc_msg::{Msg, Outbox};
 use rc_node::NodeFault;
-use rc_record::ShardDurable;
+use rc_record::{ReplayFault, ShardDurable, replay_shard};
 use rc_shard::Shard;
 use std::alloc::Global;
 
@@ -48,4 +50,17 @@ impl<J: Journal, L: LockTable> Node<J> for Shard<J, L> {
     fn power_cut(&mut self, k: u64, pick: u8) {
         Shard::power_cut(self, k, pick)
     }
+
+    ghost replayed = { shard_replay };
+
+    fn replay(
+        alloc: Global,
+        node: NodeId,
+        cluster: &Cluster,
+        blobs: &Blobs,
+    ) -> Result<ShardDurable, ReplayFault> {
+        replay_shard(alloc, node, cluster, blobs)
+    }
+
+    ghost gives_back = { shard_gives_back };
 }
