@@ -1,26 +1,23 @@
 -- What an act of a node makes of its host.
-use Rattle.std.proofs.Common.{◌≡◌, ℕ, List, [], ◌∷◌, ◌++◌, Option, Some, None, option_map, IfSome, length, refl, sym, ap, ◌∙◌, subst, append_assoc, ◌+◌, arith, length-append}
+use Rattle.std.proofs.Common.{◌≡◌, ℕ, List, [], ◌∷◌, ◌++◌, Option, Some, None, option_map, length, refl, sym, ap, ◌∙◌, subst, append_assoc, ◌+◌, arith, length-append}
 use Rattle.std.proofs.lemmas.List.Sums.{sum_by-append}
 use Rattle.rc_log.specs.Records.{size_of}
-use Rattle.std.specs.List.{flat_map}
 use Rattle.rc_ids.specs.Tables.{maybe}
 use Rattle.rc_record.specs.declared.record.Record.{Record}
 use Rattle.rc_record.specs.Reading.{decoded}
 use Rattle.rc_record.specs.Spelling.{record_bytes}
 use Rattle.rc_log.specs.Journals.{State}
-use Rattle.rc_node.specs.Acts.{Logs, Enters}
+use Rattle.rc_node.specs.Acts.{Enters}
 use Rattle.rc_protocol.specs.Nodes.{logged}
-use Rattle.rc_protocol.specs.Acts.{NodeCause}
 use Rattle.rc_runs.specs.World.{Course, Goes}
 use Rattle.rc_runs.specs.Devices.{Device, Fate, Made, appended, course_of, record_length}
 use Rattle.rc_runs.specs.Session.{after_append}
 use Rattle.rc_runs.specs.Stored.{records_of, without_head}
-use Rattle.rc_devices.specs.Disks.{IsKept}
 use Rattle.rc_devices.specs.Laws.{IsTold}
 use Rattle.rc_devices.proofs.Appends.{appends_are_devices}
-use Rattle.rc_host.specs.AnyNode.{AnyNode, AnyAct, NodeDurable, node_act, act_of}
+use Rattle.rc_host.specs.AnyNode.{AnyAct, NodeDurable}
 use Rattle.rc_host.specs.Standing.{Standing, after_act, course_on, device_after}
-use Rattle.rc_host.specs.Hosts.{Run, Holds, HasLog, IsLogged, AreLogged}
+use Rattle.rc_host.specs.Hosts.{Run, HasLog, IsLogged}
 
 -- one record more is read behind the others
 abbrev read_one : List ℕ → List Record

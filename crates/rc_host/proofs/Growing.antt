@@ -1,8 +1,7 @@
 -- What a disk told before a log on it was opened is told still after it.
-use Rattle.std.proofs.Common.{◌≡◌, ℕ, zero, suc, ◌+◌, ◌-◌, ◌^◌, ◌≤◌, ◌<◌, List, [], ◌∷◌, ◌++◌, Option, Some, None, option_map, IfSome, refl, sym, ap, ◌∙◌, subst, arith, true, false, append_assoc}
+use Rattle.std.proofs.Common.{◌≡◌, ℕ, zero, suc, ◌+◌, ◌-◌, ◌^◌, ◌≤◌, ◌<◌, List, [], ◌∷◌, ◌++◌, Option, Some, None, option_map, IfSome, ap, ◌∙◌, subst, arith, true, append_assoc}
 use Rattle.rc_ports.specs.Causes.{raised}
 use Rattle.rc_disk.specs.declared.power.Power.{Power}
-use Rattle.rc_disk.specs.declared.power.Power.TheVariants.{On}
 use Rattle.rc_disk.specs.Calls.{Told, powered as powered_disk}
 use Rattle.rc_log.specs.Opening.{opened_by, refused_at, synced_and_read, IsNoOpen, calls_of_all}
 use Rattle.rc_log.specs.declared.fault.OpenFault.{OpenFault}

@@ -5,3 +5,5 @@ pub mod Acting
 pub mod Stopping
 pub mod Turning
 pub mod Restarting
+pub mod Beginning
+pub mod Starting

@@ -1,5 +1,5 @@
 -- The log of a node that stopped inside an event, opened at once.
-use Rattle.std.proofs.Common.{◌≡◌, ℕ, ◌+◌, ◌-◌, ◌^◌, List, Option, Some, None, option_map, IfSome, Result, Ok, Err, length, refl, sym, ap, ◌∙◌, subst, true}
+use Rattle.std.proofs.Common.{◌≡◌, ℕ, List, Option, Some, None, option_map, IfSome, Result, Ok, Err, length, sym, ap, ◌∙◌, subst, true}
 use Rattle.std.specs.Prelude.{nat_lt}
 use Rattle.rc_disk.specs.declared.power.Power.{Power}
 use Rattle.rc_disk.specs.declared.power.Power.TheVariants.{On}
@@ -10,7 +10,7 @@ use Rattle.rc_log.specs.Opening.{synced_and_read, refused_at, IsNoOpen, FailsToO
 use Rattle.rc_log.specs.Records.{records, size_of}
 use Rattle.rc_log.specs.declared.fault.OpenFault.{OpenFault}
 use Rattle.rc_log.specs.declared.fault.OpenFault.TheVariants.{Failed}
-use Rattle.rc_runs.specs.Devices.{Device, opened, powered, read_once, called, most_log_bytes}
+use Rattle.rc_runs.specs.Devices.{Device, opened, powered, most_log_bytes}
 use Rattle.rc_devices.specs.Disks.{IsKept}
 use Rattle.rc_devices.proofs.Openings.{openings_are_devices}
 use Rattle.rc_host.specs.declared.host.Course.TheVariants.{Stops}

@@ -5,12 +5,12 @@ use Rattle.rc_ids.specs.Cluster.{Layout}
 use Rattle.rc_ids.specs.declared.names.NodeId.{NodeId}
 use Rattle.rc_ports.specs.Causes.{raised}
 use Rattle.rc_disk.specs.declared.power.Power.{Power}
-use Rattle.rc_disk.specs.declared.power.Power.TheVariants.{On, Armed}
+use Rattle.rc_disk.specs.declared.power.Power.TheVariants.{On}
 use Rattle.rc_disk.specs.Calls.{Told, read_bytes, powered as powered_disk}
 use Rattle.rc_log.specs.Append.{power_past}
 use Rattle.rc_log.specs.Journals.{State, Begins}
 use Rattle.rc_log.specs.Opening.{synced_and_read, opened_by, syncs_in, IsNoOpen, LacksMemory}
-use Rattle.rc_log.specs.Records.{records, size_of}
+use Rattle.rc_log.specs.Records.{records}
 use Rattle.rc_log.specs.declared.fault.OpenFault.{OpenFault}
 use Rattle.rc_log.specs.declared.fault.OpenFault.TheVariants.{NoMemory as NoMemoryToOpen, Failed}
 use Rattle.rc_record.specs.declared.fault.ReplayFault.{ReplayFault}

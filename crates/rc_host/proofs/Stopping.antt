@@ -1,6 +1,6 @@
 -- A node that stops inside an act, as its host.
-use Rattle.std.proofs.Common.{◌≡◌, ℕ, zero, suc, ◌+◌, ◌-◌, ◌^◌, ◌<◌, List, [], ◌∷◌, ◌++◌, Bool, true, false, cond, Option, Some, None, option_map, IfSome, Result, Ok, Err, length, refl, sym, ap, ◌∙◌, subst, arith, length-append}
-use Rattle.std.specs.Prelude.{nat_lt, IsTrue}
+use Rattle.std.proofs.Common.{◌≡◌, ℕ, zero, suc, ◌+◌, ◌-◌, ◌^◌, ◌<◌, List, [], ◌∷◌, ◌++◌, Bool, true, false, cond, Option, Some, None, IfSome, Ok, length, refl, sym, ap, ◌∙◌, subst, arith, length-append}
+use Rattle.std.specs.Prelude.{nat_lt}
 use Rattle.rc_ids.specs.Tables.{maybe}
 use Rattle.rc_disk.specs.declared.power.Cause.{Cause}
 use Rattle.rc_disk.specs.Calls.{Told, read_bytes}
@@ -10,11 +10,10 @@ use Rattle.rc_log.specs.Records.{records, size_of}
 use Rattle.rc_record.specs.declared.record.Record.{Record}
 use Rattle.rc_record.specs.Spelling.{record_bytes}
 use Rattle.rc_protocol.specs.Nodes.{logged}
-use Rattle.rc_runs.specs.Devices.{Device, Fate, Made, Full, FailsAt, next_fails, called, in_a_row, appends, appended, is_kept, is_too_long, at_offset, offset_after}
+use Rattle.rc_runs.specs.Devices.{Device, Fate, Full, FailsAt, next_fails, called, in_a_row, appends, appended, is_kept, is_too_long, at_offset, offset_after}
 use Rattle.rc_runs.specs.Farms.{reads_at}
 use Rattle.rc_runs.specs.Stored.{records_of}
 use Rattle.rc_devices.specs.Laws.{IsTold, IsFailed}
-use Rattle.rc_devices.proofs.Appends.{appends_are_devices}
 use Rattle.rc_devices.proofs.Openings.{cuts_are_devices}
 use Rattle.rc_host.specs.AnyNode.{AnyAct, NodeDurable}
 use Rattle.rc_host.specs.Standing.{Standing, after_stop}

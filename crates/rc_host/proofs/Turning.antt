@@ -1,19 +1,19 @@
 -- A node that is up handles something: its host after that.
-use Rattle.std.proofs.Common.{◌≡◌, ℕ, ◌-◌, ◌<◌, ◌^◌, List, [], ◌∷◌, ◌++◌, Bool, true, false, Option, Some, None, option_map, IfSome, Result, Ok, Err, IfOk, IfErr, length, refl, sym, ap, ◌∙◌, subst}
+use Rattle.std.proofs.Common.{◌≡◌, ℕ, ◌-◌, ◌<◌, ◌^◌, List, Bool, true, false, Option, Some, None, option_map, IfSome, Result, Ok, Err, IfOk, IfErr, length, refl, sym, ap, ◌∙◌, subst}
 use Rattle.std.specs.Prelude.{nat_lt}
 use Rattle.rc_ids.specs.Cluster.{Layout}
 use Rattle.rc_ids.specs.declared.names.NodeId.{NodeId}
 use Rattle.rc_ids.specs.declared.names.NodeId.TheVariants.{Coord, Shard as ShardServer}
 use Rattle.rc_disk.specs.Calls.{Told, Reads, read_bytes}
 use Rattle.rc_log.specs.Append.{keeps, with_or_without, append_calls, stopped_at}
-use Rattle.rc_log.specs.Journals.{State, would_pass_limit}
+use Rattle.rc_log.specs.Journals.{State}
 use Rattle.rc_log.specs.Records.{records}
 use Rattle.rc_msg.specs.Outboxes.{Outbox}
 use Rattle.rc_record.specs.declared.record.Record.{Record}
 use Rattle.rc_record.specs.ShardState.{shard_applied}
 use Rattle.rc_record.specs.CoordState.{coord_applied}
 use Rattle.rc_record.specs.Spelling.{record_bytes}
-use Rattle.rc_node.specs.Acts.{Logs, FailsAt as AppendFailsAt, IsFullAt, Breaks}
+use Rattle.rc_node.specs.Acts.{Logs, FailsAt as AppendFailsAt, IsFullAt}
 use Rattle.rc_node.specs.Cores.{HasActed, HasRefused}
 use Rattle.rc_node.specs.declared.fault.NodeFault.{NodeFault}
 use Rattle.rc_node.specs.declared.fault.NodeFault.TheVariants.{Failed, Full as LogFull}
@@ -21,18 +21,17 @@ use Rattle.rc_protocol.specs.Acts.{NodeCause}
 use Rattle.rc_protocol.specs.Nodes.{applied}
 use Rattle.rc_runs.specs.Devices.{Device, FailsAt, Full, opened, powered, read_once, called}
 use Rattle.rc_runs.specs.World.{Stops as StopsInside}
-use Rattle.rc_devices.specs.Disks.{IsKept}
-use Rattle.rc_devices.specs.Laws.{IsTold, IsFailed}
+use Rattle.rc_devices.specs.Laws.{IsTold}
 use Rattle.rc_devices.proofs.Appends.{appends_are_devices, stopped_reads}
 use Rattle.rc_host.specs.AnyNode.{AnyNode, AnyAct, NodeDurable, NodeVolatile, OfShard, OfCoord, OfShardNow, OfCoordNow, node_act, act_of, new_volatile}
-use Rattle.rc_host.specs.Standing.{Standing, after_act, after_stop, course_on, device_after}
+use Rattle.rc_host.specs.Standing.{Standing, after_stop, course_on, device_after}
 use Rattle.rc_host.specs.declared.host.Host.{Host}
 use Rattle.rc_host.specs.declared.host.Host.TheVariants.{Up, Opened, Down, Lent}
 use Rattle.rc_host.specs.declared.host.Course.{Course}
 use Rattle.rc_host.specs.declared.host.Course.TheVariants.{Goes, Stops}
 use Rattle.rc_host.specs.declared.host.HostFault.{HostFault}
 use Rattle.rc_host.specs.declared.host.HostFault.TheVariants.{NoMemory, BallotsSpent, DiskFailed, Damaged, Lost}
-use Rattle.rc_host.specs.Hosts.{Sight, Run, IsHost, IsUp, HasLog, HasReadsLeft, AreLogged, IsLogged, Went, Stayed, StopsAt, IsOpenAgain, OpensAgain, StaysShut, StopsOn}
+use Rattle.rc_host.specs.Hosts.{Sight, Run, IsHost, IsUp, HasLog, HasReadsLeft, AreLogged, IsLogged, Went, Stayed, StopsAt, OpensAgain, StaysShut, StopsOn}
 use Rattle.rc_host.proofs.Acting.{Gone, no_record, one_record, comes_some}
 use Rattle.rc_host.proofs.Stopping.{stops_failed, stops_full, held_after, counted_after}
 

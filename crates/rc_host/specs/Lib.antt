@@ -4,4 +4,7 @@ pub mod Standing
 pub mod Hosts
 pub mod Disks
 pub mod Restarts
+pub mod Begins
+pub mod NewestHeads
+pub mod ShardReplays
 pub mod ShardLogs

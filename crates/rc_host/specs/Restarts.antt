@@ -1,8 +1,5 @@
 -- How a node that is down starts again.
-use Rattle.std.specs.Prelude.{◌≡◌, ◌⊎◌, ◌+◌, ℕ, zero, suc, false, List, Option, None, Some}
-use Rattle.rc_disk.specs.declared.power.Power.{Power}
-use Rattle.rc_disk.specs.Calls.{Told}
-use Rattle.rc_log.specs.Journals.{State}
+use Rattle.std.specs.Prelude.{◌≡◌, ◌⊎◌, ◌+◌, ℕ, zero, suc, List, None, Some}
 use Rattle.rc_runs.specs.Devices.{Device, opened_once, called}
 use Rattle.rc_record.specs.declared.fault.ReplayFault.{ReplayFault}
 use Rattle.rc_record.specs.declared.fault.ReplayFault.TheVariants.{NoMemory as OutOfMemory, BadRecord, OtherWorld}
@@ -10,7 +7,7 @@ use Rattle.rc_report.specs.declared.fault.LogFault.TheVariants.{BadRecord as Bad
 use Rattle.rc_host.specs.AnyNode.{NodeDurable}
 use Rattle.rc_host.specs.Standing.{Standing, started_again}
 use Rattle.rc_host.specs.declared.host.Host.{Host}
-use Rattle.rc_host.specs.declared.host.Host.TheVariants.{Up, Opened, Down, Lent}
+use Rattle.rc_host.specs.declared.host.Host.TheVariants.{Down}
 use Rattle.rc_host.specs.declared.restarts.RestartFault.{RestartFault}
 use Rattle.rc_host.specs.declared.restarts.RestartFault.TheVariants.{NoMemory, DiskFailed, Refused}
 use Rattle.rc_host.specs.Hosts.{Sight, Run, IsHost}

@@ -1,5 +1,5 @@
 -- A node as the run has it, with its device.
-use Rattle.std.specs.Prelude.{ℕ, Bool, true, false, List, Option, None, Some, if◌then◌else◌}
+use Rattle.std.specs.Prelude.{Bool, true, false, List, Option, Some, if◌then◌else◌}
 use Rattle.rc_ids.specs.Tables.{maybe}
 use Rattle.rc_record.specs.declared.record.Record.{Record}
 use Rattle.rc_protocol.specs.Nodes.{CoordNode, ShardNode, logged}

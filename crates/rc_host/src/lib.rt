@@ -1,12 +1,14 @@
 //! Hosts: a node and its disk, whether the node is up or down.
 #![tactic(auto)]
 
+mod begins;
 mod host;
 mod node;
 mod restarts;
 mod shard;
 mod stops;
 
+pub use begins::{BeginFault, begin};
 pub use host::{Course, Host, HostFault, MOST_LOG_BYTES, deliver};
 pub use node::Node;
 pub use restarts::{RestartFault, restart};

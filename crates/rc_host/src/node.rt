@@ -8,6 +8,7 @@ ghost use Rattle.rc_record.specs.declared.fault.ReplayFault.{ReplayFault};
 ghost use Rattle.rc_record.specs.declared.fault.ReplayFault.TheVariants.{NoMemory as OutOfMemory};
 ghost use Rattle.rc_protocol.specs.Acts.{Came, Catches, Takes};
 ghost use Rattle.rc_node.specs.Cores.{HasActed, HasRefused, moved, started};
+ghost use Rattle.rc_host.specs.Begins.{BeginLaws};
 ghost use Rattle.rc_host.specs.AnyNode.{AnyNode, NodeDurable, new_volatile, act_of};
 
 use rc_ids::{Blobs, Cluster, NoMemory, NodeId, Party};
@@ -20,7 +21,7 @@ use std::alloc::Global;
 /// A node of either kind, on a journal.
 pub trait Node<J: Journal>: Drop {
     /// What its log gives back.
-    type Durable;
+    type Durable: Drop;
 
     ghost seen: { Self → AnyNode J };
 
@@ -84,4 +85,7 @@ pub trait Node<J: Journal>: Drop {
 
     // Records that give a state back are not refused.
     ghost gives_back: { (node : NodeName) (c : Layout) (blobs : List (List ℕ)) (s : NodeDurable) → back node c blobs s → IsOkAnd (replayed node c blobs) (λ durable. gives durable ≡ s) };
+
+    // What the log of a node that begins gives it.
+    ghost begins: { (node : NodeName) (c : Layout) → is_kind node → BeginLaws gives replayed back node c };
 }

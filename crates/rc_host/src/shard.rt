@@ -2,7 +2,7 @@
 ghost use Rattle.rc_record.specs.InOrder.{shown};
 ghost use Rattle.rc_record.specs.Replay.{shard_replay};
 ghost use Rattle.rc_host.specs.AnyNode.{OfShard, IsShardServer, shard_seen, shard_back};
-ghost use Rattle.rc_host.specs.ShardLogs.{shard_gives_back};
+ghost use Rattle.rc_host.specs.ShardLogs.{shard_gives_back, shard_begins};
 
 use crate::Node;
 use rc_ids::{Blobs, Cluster, NoMemory, NodeId, Party};
@@ -63,4 +63,6 @@ impl<J: Journal, L: LockTable> Node<J> for Shard<J, L> {
     }
 
     ghost gives_back = { shard_gives_back };
+
+    ghost begins = { shard_begins };
 }
