@@ -7,3 +7,4 @@ pub mod Turning
 pub mod Restarting
 pub mod Beginning
 pub mod Starting
+pub mod StandingFacts

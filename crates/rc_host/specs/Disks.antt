@@ -1,10 +1,12 @@
 -- The disk of a host.
-use Rattle.std.specs.Prelude.{ℕ, List, Option, None}
+use Rattle.std.specs.Prelude.{◌≡◌, ℕ, List, Option, None, Some, Ok}
 use Rattle.rc_disk.specs.Calls.{Told}
-use Rattle.rc_host.specs.AnyNode.{AnyNode}
+use Rattle.rc_log.specs.Records.{records}
+use Rattle.rc_host.specs.AnyNode.{AnyNode, NodeDurable}
+use Rattle.rc_host.specs.Standing.{Standing}
 use Rattle.rc_host.specs.declared.host.Host.{Host}
 use Rattle.rc_host.specs.declared.host.Host.TheVariants.{Up, Opened, Down, Lent}
-use Rattle.rc_host.specs.Hosts.{Sight}
+use Rattle.rc_host.specs.Hosts.{Sight, Holds}
 
 -- it is not in a call
 abbrev pub IsThere : {N J D : Type 0} → Host N J D → Type 0
@@ -31,3 +33,11 @@ can_leave seen of_journal of_disk (Up node) left = of_journal (seen node).journa
 can_leave seen of_journal of_disk (Opened journal blobs) left = of_journal journal left
 can_leave seen of_journal of_disk (Down disk) left = of_disk disk left
 can_leave seen of_journal of_disk Lent left = ⊥
+
+-- it has a log that gives the node back
+pub record LeavesLog (content : Option (List ℕ)) (gives : List (List ℕ) → NodeDurable → Type 0) (x : Standing) : Type 0 where
+  pub bytes : List ℕ
+  pub is : content ≡ Some bytes
+  pub blobs : List (List ℕ)
+  pub has : records bytes ≡ Ok blobs
+  pub holds : Holds gives blobs x

@@ -7,7 +7,7 @@ ghost use Rattle.rc_runs.specs.Devices.{Device, powered, armed};
 ghost use Rattle.rc_devices.specs.Disks.{IsKept};
 ghost use Rattle.rc_host.specs.Standing.{Standing, stopped};
 ghost use Rattle.rc_host.specs.Hosts.{Run, sight, is_up, IfUp, IsHost, IsToldBy};
-ghost use Rattle.rc_host.specs.Disks.{IsThere, told_by, content_by, can_leave};
+ghost use Rattle.rc_host.specs.Disks.{IsThere, told_by, content_by, can_leave, LeavesLog};
 
 use crate::{Host, Node};
 use rc_disk::Disk;
@@ -57,6 +57,7 @@ pub fn into_disk<D: Disk, N: Node<Log<D>>>(host: Host<N, Log<D>, D>) -> D
     ensures told { D.told result ≡ option_map powered_disk (told_by (sight N.seen ⟦<Log<D> as Journal>⟧.state D.told D.content D.power) host) }
     ensures content { IfSome (D.content result) (can_leave N.seen ⟦<Log<D> as Journal>⟧.may_leave D.may_leave host) }
     ensures tells { is_some (D.content result) ≡ is_some (content_by (sight N.seen ⟦<Log<D> as Journal>⟧.state D.told D.content D.power) host) }
+    ensures log { (run : Run) (x : Standing) (d : Device) → IsHost (sight N.seen ⟦<Log<D> as Journal>⟧.state D.told D.content D.power) (N.back run.node run.cluster) run host x d → LeavesLog (D.content result) (N.back run.node run.cluster) x }
     ensures grew { (ended : Told) → IfSome (D.told result) (λ t. IsKept t ended) → IsToldBy (sight N.seen ⟦<Log<D> as Journal>⟧.state D.told D.content D.power) host ended }
 {
     let mut disk = match host {
