@@ -8,3 +8,5 @@ pub mod Begins
 pub mod NewestHeads
 pub mod ShardReplays
 pub mod ShardLogs
+pub mod CoordReplays
+pub mod CoordLogs
