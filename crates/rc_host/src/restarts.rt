@@ -156,8 +156,7 @@ pub fn restart<D: Disk, N: Node<Log<D>>>(
     cluster: &Cluster,
     host: &mut Host<N, Log<D>, D>,
 ) -> Result<(), RestartFault>
-    requires kind { N.is_kind node }
-    requires up { IfUp host.old (λ node. (N.seen node).stopped ≡ false) }
+    requires { N.is_kind node }
     ensures ok { (run : Run) (x : Standing) (d : Device) → run.node ≡ node → run.cluster ≡ cluster.now → is_up host.old ≡ false → IsHost (sight N.seen ⟦<Log<D> as Journal>⟧.state D.told D.content D.power) (N.back run.node run.cluster) run host.old x d
         → HasReadsLeft run d → IsToldBy (sight N.seen ⟦<Log<D> as Journal>⟧.state D.told D.content D.power) host.new run.ended
         → IfOk result (λ _. HasStarted (sight N.seen ⟦<Log<D> as Journal>⟧.state D.told D.content D.power) (N.back run.node run.cluster) run host.new x d) }
@@ -165,7 +164,7 @@ pub fn restart<D: Disk, N: Node<Log<D>>>(
         → HasReadsLeft run d → IsToldBy (sight N.seen ⟦<Log<D> as Journal>⟧.state D.told D.content D.power) host.new run.ended
         → IfErr result (λ fault. HasNotStarted (sight N.seen ⟦<Log<D> as Journal>⟧.state D.told D.content D.power) (N.back run.node run.cluster) run fault host.new x d) }
     ensures idle { is_up host.old ≡ true → (host.new ≡ host.old) × (result ≡ Ok tt) }
-    ensures up { IfUp host.new (λ node. (N.seen node).stopped ≡ false) }
+    ensures up { IfUp host.old (λ node. (N.seen node).stopped ≡ false) → IfUp host.new (λ node. (N.seen node).stopped ≡ false) }
     ensures there { IsThere host.old → IsThere host.new }
     ensures grew { (ended : Told) → IfSome (told_by (sight N.seen ⟦<Log<D> as Journal>⟧.state D.told D.content D.power) host.old) (λ t. t.reads.made < 2 ^ 64 - 1)
         → IsToldBy (sight N.seen ⟦<Log<D> as Journal>⟧.state D.told D.content D.power) host.new ended → IsToldBy (sight N.seen ⟦<Log<D> as Journal>⟧.state D.told D.content D.power) host.old ended }
