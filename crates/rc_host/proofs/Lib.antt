@@ -9,3 +9,7 @@ pub mod ShardRecords
 pub mod CoordRecords
 pub mod Logging
 pub mod CoordLogging
+pub mod Restarting
+pub mod Beginning
+pub mod Starting
+pub mod StandingFacts

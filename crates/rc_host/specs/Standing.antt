@@ -1,5 +1,5 @@
 -- A node as the run has it, with its device.
-use Rattle.std.specs.Prelude.{Bool, false, List, Option, Some, if◌then◌else◌}
+use Rattle.std.specs.Prelude.{Bool, true, false, List, Option, Some, if◌then◌else◌}
 use Rattle.rc_ids.specs.Tables.{maybe}
 use Rattle.rc_record.specs.declared.record.Record.{Record}
 use Rattle.rc_protocol.specs.Nodes.{CoordNode, ShardNode, logged}
@@ -32,6 +32,14 @@ after_stop x act kept = record {
   durable = if kept then act.durable else x.durable;
   volatile = new_volatile x.durable;
 }
+
+-- after a stop between two acts
+abbrev pub stopped : Standing → Standing
+stopped x = record x { up = false; volatile = new_volatile x.durable }
+
+-- a node that is down starts again
+abbrev pub started_again : Standing → Standing
+started_again x = record x { up = true; volatile = new_volatile x.durable }
 
 -- what the device makes of an act's append: the course of the event, and the device after it, or none where the log could not be opened
 abbrev pub course_on : Device → AnyAct → Course

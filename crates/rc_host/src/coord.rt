@@ -1,13 +1,15 @@
 // A coordinator is a node.
+ghost use Rattle.rc_record.specs.Replay.{coord_replay};
 ghost use Rattle.rc_host.specs.AnyNode.{OfCoord, IsCoordinator, coord_seen, coord_back};
+ghost use Rattle.rc_host.specs.CoordLogs.{coord_gives_back, coord_begins};
 
 use crate::{Cause, Node};
 use rc_coord::{Coord, coord_laws};
-use rc_ids::{Cluster, NoMemory, NodeId};
+use rc_ids::{Blobs, Cluster, NoMemory, NodeId};
 use rc_log::Journal;
 use rc_msg::Outbox;
 use rc_node::NodeFault;
-use rc_record::{CoordDurable, record_laws};
+use rc_record::{CoordDurable, ReplayFault, record_laws, replay_coord};
 use std::alloc::Global;
 
 impl<J: Journal> Node<J> for Coord<J> {
@@ -55,4 +57,19 @@ impl<J: Journal> Node<J> for Coord<J> {
         record_laws();
         coord_laws();
     }
+
+    ghost replayed = { coord_replay };
+
+    fn replay(
+        alloc: Global,
+        node: NodeId,
+        cluster: &Cluster,
+        blobs: &Blobs,
+    ) -> Result<CoordDurable, ReplayFault> {
+        replay_coord(alloc, node, cluster, blobs)
+    }
+
+    ghost gives_back = { coord_gives_back };
+
+    ghost begins = { coord_begins };
 }

@@ -1,20 +1,24 @@
 // What a node is to its host.
-ghost use Rattle.std.specs.Prelude.{◌≡◌, ◌≤◌, ℕ, List, false, OnOk, IfOk, IfErr, IfSome};
+ghost use Rattle.std.specs.Prelude.{◌≡◌, ◌≢◌, ◌≤◌, ℕ, List, false, Result, Ok, Err, OnOk, IfOk, IfErr, IfSome, IsOkAnd};
 ghost use Rattle.rc_ids.specs.declared.names.NodeId.{NodeId as NodeName};
 ghost use Rattle.rc_ids.specs.Cluster.{Layout};
 ghost use Rattle.rc_log.specs.Journals.{with_cut};
+ghost use Rattle.rc_record.specs.declared.fault.ReplayFault.{ReplayFault};
+ghost use Rattle.rc_record.specs.declared.fault.ReplayFault.TheVariants.{NoMemory as OutOfMemory};
 ghost use Rattle.rc_record.specs.Spelling.{HasRecord};
 ghost use Rattle.rc_protocol.specs.Acts.{NodeCause};
 ghost use Rattle.rc_node.specs.Cores.{HasActed, HasRefused, moved, started};
 ghost use Rattle.rc_host.specs.AnyNode.{AnyNode, NodeDurable, new_volatile, act_of, node_act};
+ghost use Rattle.rc_host.specs.Begins.{BeginLaws};
 ghost use Rattle.rc_host.specs.Causes.{cause_of};
 ghost use Rattle.rc_host.specs.Standing.{Standing};
 ghost use Rattle.rc_host.specs.Hosts.{AreLogged};
 
-use rc_ids::{Cluster, NoMemory, NodeId, Party, TxId};
+use rc_ids::{Blobs, Cluster, NoMemory, NodeId, Party, TxId};
 use rc_log::Journal;
 use rc_msg::{Msg, Outbox};
 use rc_node::NodeFault;
+use rc_record::ReplayFault;
 use std::alloc::Global;
 
 /// What moves a node.
@@ -31,7 +35,7 @@ pub enum Cause<'a> {
 /// A node of either kind, on a journal.
 pub trait Node<J: Journal>: Drop {
     /// What its log gives back.
-    type Durable;
+    type Durable: Drop;
 
     ghost seen: { Self → AnyNode J };
 
@@ -83,4 +87,23 @@ pub trait Node<J: Journal>: Drop {
     /// An act's record that has a spelling is logged.
     fn logged_acts()
         ensures { (node : NodeName) (c : Layout) (x : Standing) (cause : NodeCause) → let act = node_act c node x.durable x.volatile cause in IfSome act.logs HasRecord → AreLogged (back node c) x act };
+
+    // What a replay of these records gives.
+    ghost replayed: { NodeName → Layout → List (List ℕ) → Result Self.Durable ReplayFault };
+
+    /// What the node's log gives back, or the first record that is refused.
+    fn replay(
+        alloc: Global,
+        node: NodeId,
+        cluster: &Cluster,
+        blobs: &Blobs,
+    ) -> Result<Self::Durable, ReplayFault>
+        ensures ok { IfOk result (λ durable. replayed node cluster.now blobs.now ≡ Ok durable) }
+        ensures err { IfErr result (λ e. e ≢ OutOfMemory → replayed node cluster.now blobs.now ≡ Err e) };
+
+    // Records that give a state back are not refused.
+    ghost gives_back: { (node : NodeName) (c : Layout) (blobs : List (List ℕ)) (s : NodeDurable) → back node c blobs s → IsOkAnd (replayed node c blobs) (λ durable. gives durable ≡ s) };
+
+    // What the log of a node that begins gives it.
+    ghost begins: { (node : NodeName) (c : Layout) → is_kind node c → BeginLaws gives replayed back node c };
 }

@@ -1,14 +1,16 @@
 // A shard server is a node.
 ghost use Rattle.rc_record.specs.InOrder.{shown};
+ghost use Rattle.rc_record.specs.Replay.{shard_replay};
 ghost use Rattle.rc_host.specs.AnyNode.{OfShard, IsShardServer, shard_seen, shard_back};
+ghost use Rattle.rc_host.specs.ShardLogs.{shard_gives_back, shard_begins};
 
 use crate::{Cause, Node};
-use rc_ids::{Cluster, NoMemory, NodeId};
+use rc_ids::{Blobs, Cluster, NoMemory, NodeId};
 use rc_locks::LockTable;
 use rc_log::Journal;
 use rc_msg::Outbox;
 use rc_node::NodeFault;
-use rc_record::{ShardDurable, record_laws};
+use rc_record::{ReplayFault, ShardDurable, record_laws, replay_shard};
 use rc_shard::{Shard, replay_laws};
 use std::alloc::Global;
 
@@ -57,4 +59,19 @@ impl<J: Journal, L: LockTable> Node<J> for Shard<J, L> {
         record_laws();
         replay_laws();
     }
+
+    ghost replayed = { shard_replay };
+
+    fn replay(
+        alloc: Global,
+        node: NodeId,
+        cluster: &Cluster,
+        blobs: &Blobs,
+    ) -> Result<ShardDurable, ReplayFault> {
+        replay_shard(alloc, node, cluster, blobs)
+    }
+
+    ghost gives_back = { shard_gives_back };
+
+    ghost begins = { λ node cluster kind. shard_begins node cluster kind };
 }
