@@ -3,7 +3,6 @@ use Rattle.std.specs.Prelude.{◌≡◌, ◌<◌, ◌++◌, ℕ, true, false, Li
 use Rattle.std.proofs.Common.{lit≤, sym, ap, subst, ◌∙◌}
 use Rattle.rc_ids.specs.Cluster.{Layout}
 use Rattle.rc_ids.specs.declared.names.NodeId.{NodeId}
-use Rattle.rc_ids.specs.declared.names.NodeId.TheVariants.{Coord}
 use Rattle.rc_record.specs.Heads.{new_head}
 use Rattle.rc_record.specs.Replay.{coord_replay, newest_head}
 use Rattle.rc_record.specs.CoordState.{CoordDurable, new_durable}

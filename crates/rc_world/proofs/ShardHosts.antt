@@ -130,7 +130,7 @@ module _ {S J D : Type 0} (s : Sight S J D) (r : Runs) (hosts : List (Host S J D
       let same_act : shard_act p.layout d sh x.durable x.volatile cause ≡ its_act = ap (λ (c : Layout). shard_act c d sh x.durable x.volatile cause) layout in
       let is_deed : deed p z.world.sent e ≡ by_shard p.layout d sh x cause = is ∙ does z d sh x v here node_here device_here cause up in
       let left = shard_acted z d sh x v here node_here device_here e (shard_act p.layout d sh x.durable x.volatile cause) went.device is_deed done.change done.begins done.starts
-          (subst (λ (a : ShardAct). device_for a.logs v ≡ Some went.device) (sym same_act) went.device_is) in
+      (subst (λ (a : ShardAct). device_for a.logs v ≡ Some went.device) (sym same_act) went.device_is) in
       let mine = subst (λ (a : ShardAct). Acted e p.layout a (course_for a.logs v) went.device) same_act left in
       record {
         device = went.device;

@@ -13,9 +13,9 @@ ghost use Rattle.rc_world.specs.Hosts.{Runs};
 ghost use Rattle.rc_world.specs.Steps.{IsDone, event_limit};
 ghost use Rattle.rc_world.specs.Worlds.{IsWorld, HasActed, KeepsCarried};
 
+use crate::WorldFault;
 use crate::clients::Refused;
 use crate::world::{Sending, World};
-use crate::WorldFault;
 use rc_disk::{Disk, Farm};
 use rc_ids::{Party, Sends, TxId};
 use rc_log::{Journal, Log};
@@ -62,7 +62,12 @@ impl<F: Farm> World<F> {
     }
 
     /// A client takes a command.
-    pub(crate) fn command(&mut self, tx: TxId, event: &Event, lines: &mut Lines) -> Result<Sending, WorldFault>
+    pub(crate) fn command(
+        &mut self,
+        tx: TxId,
+        event: &Event,
+        lines: &mut Lines,
+    ) -> Result<Sending, WorldFault>
         requires of { AreOf self.old.cluster self.old.clients.cores }
         requires lines { lines.old ≡ [] }
         ensures ok { (r : Runs) (z : Session) (cause : ClientCause) → IsWorld (views ⟦<Log<F::D> as Journal>⟧.state F.D.told F.D.content F.D.power) r (parts_of self.old) z → command event.now ≡ Some (tx, cause)
@@ -88,7 +93,12 @@ impl<F: Farm> World<F> {
     }
 
     /// A client hears a message; nobody does where there is no such client.
-    pub(crate) fn hear(&mut self, tx: TxId, msg: &Msg, lines: &mut Lines) -> Result<Sending, WorldFault>
+    pub(crate) fn hear(
+        &mut self,
+        tx: TxId,
+        msg: &Msg,
+        lines: &mut Lines,
+    ) -> Result<Sending, WorldFault>
         requires of { AreOf self.old.cluster self.old.clients.cores }
         requires lines { lines.old ≡ [] }
         ensures ok { (r : Runs) (z : Session) (e : AnyEvent) → IsWorld (views ⟦<Log<F::D> as Journal>⟧.state F.D.told F.D.content F.D.power) r (parts_of self.old) z
