@@ -26,3 +26,4 @@ pub mod SpentRows
 pub mod CoordFaults
 pub mod CoordVotes
 pub mod CoordTurns
+pub mod Ordering

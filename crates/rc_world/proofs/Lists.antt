@@ -7,7 +7,7 @@ use Rattle.std.proofs.lemmas.Bool.Decides.{nat_tests}
 use Rattle.std.proofs.lemmas.List.{length-set}
 use Rattle.std.proofs.lemmas.Option.{slice_get_within}
 use Rattle.std.proofs.lemmas.Nat.{div-mul-add, mod-mul-add}
-use Rattle.rc_ids.specs.Cluster.{Layout}
+use Rattle.rc_ids.specs.Cluster.{Layout, is_dc}
 use Rattle.rc_ids.specs.declared.names.NodeId.{NodeId}
 use Rattle.rc_ids.specs.declared.names.NodeId.TheVariants.{Coord, Shard as ShardServer}
 use Rattle.rc_protocol.specs.Nodes.{coord_index, shard_index}
@@ -25,14 +25,14 @@ set_at [] i y h = absurd (omega arith)
 set_at (x ∷ xs) zero y h = refl
 set_at (x ∷ xs) (suc i) y h = let k : i < length xs = omega arith in set_at xs i y k
 
-set_other : {X : Type 0} (xs : List X) (i j : ℕ) (y : X) → (j ≡ i → ⊥) → slice_get (slice_set xs i y) j ≡ slice_get xs j
+pub set_other : {X : Type 0} (xs : List X) (i j : ℕ) (y : X) → (j ≡ i → ⊥) → slice_get (slice_set xs i y) j ≡ slice_get xs j
 set_other [] i j y h = refl
 set_other (x ∷ xs) zero zero y h = absurd (h refl)
 set_other (x ∷ xs) zero (suc j) y h = refl
 set_other (x ∷ xs) (suc i) zero y h = refl
 set_other (x ∷ xs) (suc i) (suc j) y h = set_other xs i j y (λ e. h (ap suc e))
 
-same_or : (i j : ℕ) → (j ≡ i) ⊎ (j ≡ i → ⊥)
+pub same_or : (i j : ℕ) → (j ≡ i) ⊎ (j ≡ i → ⊥)
 same_or zero zero = inl refl
 same_or zero (suc j) = inr (λ e. cc)
 same_or (suc i) zero = inr (λ e. cc)
@@ -126,3 +126,6 @@ place_within c d sh there =
     let dc : d - 1 < c.dcs = omega (arith, low_d, high_d) in
     let shard : sh - 1 < c.shards = omega (arith, low_s, high_s) in
     within_all (d - 1) c.dcs c.shards (sh - 1) dc shard
+
+pub is_of_world : (c : Layout) (d : ℕ) → 1 ≤ d → coord_index d < c.dcs → is_dc c d ≡ true
+is_of_world c d low within = grind (arith, nat_tests)

@@ -1,6 +1,13 @@
 -- A world after a node acted in an event.
-use Rattle.std.proofs.Common.{◌≡◌, ◌≢◌, ℕ, Bool, false, List, [], length, Option, None, Some, refl, sym, ◌∙◌, ap, subst}
-use Rattle.rc_ids.specs.Cluster.{Layout}
+use Rattle.std.proofs.Common.{◌≡◌, ◌≢◌, ℕ, Bool, false, List, [], length, Option, None, Some, IsTrue, refl, sym, ◌∙◌, ap, subst}
+use Rattle.rc_ids.specs.Cluster.{Layout, is_dc}
+use Rattle.rc_protocol.specs.Nodes.{CoordNode}
+use Rattle.rc_order.specs.Orders.{Order, IsAsBefore}
+use Rattle.rc_order.specs.Counts.{CountLaws}
+use Rattle.rc_world.specs.declared.votes.Vote.{Vote}
+use Rattle.rc_world.specs.Noted.{Notes}
+use Rattle.rc_world.specs.CoordActed.{CoordsActed}
+use Rattle.rc_world.proofs.Ordering.{room_keeps}
 use Rattle.rc_ids.specs.declared.names.NodeId.{NodeId}
 use Rattle.rc_ids.specs.declared.names.NodeId.TheVariants.{Shard as ShardServer}
 use Rattle.rc_ids.specs.declared.names.Party.TheVariants.{Node}
@@ -8,7 +15,7 @@ use Rattle.rc_ids.specs.declared.sends.Letter.{Letter}
 use Rattle.rc_msg.specs.Outboxes.{Outbox}
 use Rattle.rc_report.specs.declared.line.Line.{Line}
 use Rattle.rc_runs.specs.declared.event.Event.{Event}
-use Rattle.rc_runs.specs.World.{Parties, Deed, Idle, deed, actor}
+use Rattle.rc_runs.specs.World.{Parties, Deed, Idle, deed, actor, with_coord}
 use Rattle.rc_runs.specs.Refusals.{wrong, begins}
 use Rattle.rc_runs.specs.Session.{Session}
 use Rattle.rc_host.specs.declared.host.Host.{Host}
@@ -65,3 +72,32 @@ module _ {C S J D : Type 0} (v : Views C S J D) (r : Runs) (z : Session) (old : 
     actor_is = λ some. sym who;
     posted = none;
   }
+
+  -- a coordinator took part, and its vote entered the order, for which room was made
+  pub coords_did : ((c : Layout) (coords now : List CoordNode) (o : Order) → CountLaws c coords now o) → (coords : List (Host C J D)) (mid order : Order) (dc : ℕ) (node : NodeId) (out : Outbox) (vote : Option Vote) (letters : List Letter) (own : List Line)
+      → IsTrue (is_dc r.cluster dc) → IsAsBefore old.order mid → Notes mid order dc vote → length coords ≡ length old.coords → letters ≡ out.letters → actor z.world.sent e ≡ Node node → CoordsActed v.coords r z e dc node coords out own vote
+      → HasActed v r z e (record old { coords = coords; order = order }) (Node node) letters own
+  coords_did laws coords mid order dc node out vote letters own known room notes count sent who did =
+      let was = is.parties in
+      let p = z.world.parties in
+      let here : IsTrue (is_dc p.layout dc) = subst (λ (c : Layout). IsTrue (is_dc c dc)) (sym was.layout) known in
+      record {
+        named = named;
+        early = early z.world e no_begin (ap event_limit (sym is.carried.events) ∙ fits);
+        parties = with_coord p dc did.after did.left;
+        coords = did.devices;
+        shards = z.shards;
+        sends = did.sends;
+        acted = did.acted;
+        are = record {
+          layout = was.layout;
+          cluster = was.cluster;
+          of_coords = count ∙ was.of_coords;
+          of_shards = was.of_shards;
+          hosts = record { of_coords = did.hosts; of_shards = was.hosts.of_shards };
+          roster = record { named = was.roster.named; clients = was.roster.clients };
+          order = notes p.layout p.coords p.start.committed p.committed did.before did.after did.left (room_keeps laws p.layout p.coords p.start.committed p.committed old.order mid room was.order) here did.stood did.log did.votes;
+        };
+        actor_is = λ some. sym who;
+        posted = sent ∙ ap (λ (o : Outbox). o.letters) did.posted;
+      }

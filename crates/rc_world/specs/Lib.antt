@@ -14,3 +14,4 @@ pub mod Words
 pub mod Limits
 pub mod Refused
 pub mod CoordActed
+pub mod Noted

@@ -7,6 +7,7 @@ mod coords;
 mod fault;
 mod mail;
 mod nodes;
+mod noting;
 mod sending;
 mod shards;
 mod turns;

@@ -1,26 +1,29 @@
 // Nodes act in an event.
 ghost use Rattle.std.specs.Prelude.{◌≡◌, [], false, None, IfOk, IfErr};
-ghost use Rattle.rc_ids.specs.declared.names.NodeId.TheVariants.{Shard as ShardServer};
+ghost use Rattle.rc_ids.specs.declared.names.NodeId.TheVariants.{Coord as Coordinator, Shard as ShardServer};
 ghost use Rattle.rc_ids.specs.declared.names.Party.TheVariants.{Node as NodeParty};
 ghost use Rattle.rc_runs.specs.declared.event.Event.{Event as AnyEvent};
 ghost use Rattle.rc_runs.specs.Refusals.{wrong, begins};
 ghost use Rattle.rc_runs.specs.Session.{Session};
-ghost use Rattle.rc_runs.specs.World.{deed, shard_does, actor};
+ghost use Rattle.rc_runs.specs.World.{deed, coord_does, shard_does, actor};
 ghost use Rattle.rc_host.specs.Causes.{cause_of};
 ghost use Rattle.rc_grammar.specs.Acts.{HasNodeCause};
 ghost use Rattle.rc_world.specs.Words.{parts_of, views};
-ghost use Rattle.rc_world.specs.Places.{shard_name};
-ghost use Rattle.rc_world.specs.Hosts.{Runs, HaveReadsLeft, ShardsAreTold};
+ghost use Rattle.rc_world.specs.Places.{coord_name, shard_name};
+ghost use Rattle.rc_world.specs.Hosts.{Runs, HaveReadsLeft, CoordsAreTold, ShardsAreTold};
 ghost use Rattle.rc_world.specs.Steps.{IsDone};
 ghost use Rattle.rc_world.specs.Worlds.{IsWorld, HasActed, KeepsCarried};
 
 use crate::WorldFault;
+use crate::coords::coord_acts;
+use crate::noting::note;
 use crate::shards::{is_shard_of, place_of, shard_acts};
 use crate::world::{Sending, World};
 use rc_disk::{Disk, Farm};
 use rc_host::Cause;
 use rc_ids::{DcId, NodeId, Party, Sends, ShardId};
 use rc_log::{Journal, Log};
+use rc_order::count_laws;
 use rc_report::Lines;
 
 impl<F: Farm> World<F> {
@@ -59,6 +62,41 @@ impl<F: Farm> World<F> {
                     sends: out.into_sends(),
                 });
             }
+        }
+        Ok(Sending {
+            from: Party::Node(node),
+            sends: Sends::new(self.alloc),
+        })
+    }
+
+    /// A coordinator, if it is one of the world and up, does what moves it, and the order has the vote that this leaves in its log.
+    pub(crate) fn coord_does(
+        &mut self,
+        dc: DcId,
+        cause: &Cause<'_>,
+        lines: &mut Lines,
+    ) -> Result<Sending, WorldFault>
+        requires lines { lines.old ≡ [] }
+        ensures ok { (r : Runs) (z : Session) (e : AnyEvent) → IsWorld (views ⟦<Log<F::D> as Journal>⟧.state F.D.told F.D.content F.D.power) r (parts_of self.old) z
+            → HasNodeCause (cause_of cause.now) → IsDone z e → deed z.world.parties z.world.sent e ≡ coord_does z.world.parties dc (cause_of cause.now) → actor z.world.sent e ≡ NodeParty (Coordinator dc)
+            → wrong z.world e ≡ None → begins e ≡ false → HaveReadsLeft r coord_name z.coords
+            → CoordsAreTold (views ⟦<Log<F::D> as Journal>⟧.state F.D.told F.D.content F.D.power).coords r (parts_of self.new).coords
+            → IfOk result (λ s. HasActed (views ⟦<Log<F::D> as Journal>⟧.state F.D.told F.D.content F.D.power) r z e (parts_of self.new) s.from s.sends lines.new) }
+        ensures carried { KeepsCarried (parts_of self.old) (parts_of self.new) }
+    {
+        count_laws();
+        self.event_limit()?;
+        let node = NodeId::Coord(dc);
+        let place = dc.0 as usize - 1;
+        if place < self.coords.len() {
+            self.order.room()?;
+            let (out, vote) =
+                coord_acts(self.alloc, &mut self.coords, place, &node, cause, lines)?;
+            note(&mut self.order, dc, vote);
+            return Ok(Sending {
+                from: Party::Node(node),
+                sends: out.into_sends(),
+            });
         }
         Ok(Sending {
             from: Party::Node(node),
