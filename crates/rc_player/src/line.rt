@@ -7,10 +7,10 @@ ghost use Rattle.rc_player.specs.Written.{Took, line_texts, lines_of, end_in};
 
 use crate::stop::Stop;
 use rc_ids::{NoMemory, Text};
+use rc_plain_world::{Session, SessionFault};
 use rc_ports::{Sink, Status, write_all};
 use rc_report::{Line, Lines, render};
 use rc_script::NumberedCommand;
-use rc_plain_world::{Session, SessionFault};
 use std::alloc::Global;
 
 /// The text of the lines.

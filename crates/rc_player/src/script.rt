@@ -10,10 +10,10 @@ ghost use Rattle.rc_player.specs.Written.{Took, Wrote, line_texts};
 use crate::cluster::cluster_of;
 use crate::line::{play_line, write_lines};
 use crate::stop::Stop;
+use rc_plain_world::Session;
 use rc_ports::{Sink, Status};
 use rc_report::Line;
 use rc_script::{NumberedCommand, ScriptFault, parse};
-use rc_plain_world::Session;
 use std::alloc::Global;
 
 /// The most bytes of a script.

@@ -1,15 +1,14 @@
 -- A client acts in an event, or nobody does: what the event makes of the session.
-use Rattle.std.proofs.Common.{◌≡◌, ℕ, List, [], ◌++◌, Option, None, Some, refl, sym, ◌∙◌, ap, subst}
+use Rattle.std.proofs.Common.{◌≡◌, ℕ, List, [], ◌++◌, Option, None, Some, refl, sym, ◌∙◌, ap}
 use Rattle.std.specs.Ordering.{nat_cmp}
 use Rattle.rc_ids.specs.Tables.{found, maybe}
 use Rattle.rc_report.specs.declared.line.Line.{Line}
-use Rattle.rc_report.specs.declared.fault.Which.{Which}
 use Rattle.rc_report.specs.declared.fault.Which.TheVariants.{Version}
 use Rattle.rc_runs.specs.declared.event.Event.{Event}
 use Rattle.rc_runs.specs.declared.event.Event.TheVariants.{Begin, Lose}
 use Rattle.rc_protocol.specs.Client.{Client, ClientAct, ClientRefusal, KeyWornOut}
 use Rattle.rc_protocol.specs.Acts.{ClientCause, client_act}
-use Rattle.rc_runs.specs.World.{Parties, Deed, Idle, ByClient, Course, along, after_begin, parties_after, sends_of, lines_of, with_client, with_new_client, client_does, deed, restart_lines, course_deed}
+use Rattle.rc_runs.specs.World.{Parties, Deed, Idle, ByClient, along, parties_after, sends_of, lines_of, with_client, with_new_client, client_does, deed, course_deed}
 use Rattle.rc_runs.specs.Refusals.{worn_out, limit_of}
 use Rattle.rc_runs.specs.Session.{Session, DiskChange, disk_change, with_change}
 use Rattle.rc_world.specs.Steps.{EventActed, IsDone, deed_change}

@@ -1,16 +1,14 @@
 -- A coordinator acts in an event: what the event makes of the session, from how its append went on its disk.
-use Rattle.std.proofs.Common.{◌≡◌, ℕ, Bool, true, false, List, [], ◌∷◌, ◌++◌, Option, None, Some, refl, sym, ◌∙◌, ap, subst}
+use Rattle.std.proofs.Common.{◌≡◌, ℕ, Bool, true, false, List, [], ◌∷◌, ◌++◌, Option, None, Some, refl, sym, ◌∙◌, ap}
 use Rattle.std.specs.Prelude.{slice_get, slice_set, if◌then◌else◌}
 use Rattle.rc_ids.specs.Tables.{maybe}
-use Rattle.rc_ids.specs.Cluster.{Layout, is_dc}
-use Rattle.rc_ids.specs.declared.names.NodeId.{NodeId}
+use Rattle.rc_ids.specs.Cluster.{is_dc}
 use Rattle.rc_ids.specs.declared.names.NodeId.TheVariants.{Coord}
 use Rattle.rc_record.specs.declared.record.Record.{Record}
 use Rattle.rc_report.specs.declared.line.Line.{Line}
 use Rattle.rc_report.specs.declared.line.Line.TheVariants.{Stopped, Up}
 use Rattle.rc_runs.specs.declared.event.Event.{Event}
 use Rattle.rc_runs.specs.declared.event.Event.TheVariants.{Crash, CrashAt, Restart}
-use Rattle.rc_protocol.specs.Messages.{Posts}
 use Rattle.rc_protocol.specs.Coordinator.{CoordAct}
 use Rattle.rc_protocol.specs.Acts.{NodeCause, Catches, coord_act}
 use Rattle.rc_protocol.specs.Nodes.{CoordNode, coord_index, coord_after, coord_started, coord_stopped}

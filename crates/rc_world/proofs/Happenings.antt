@@ -1,6 +1,6 @@
 -- An event on a session, from what parties and disks did in it.
-use Rattle.std.proofs.Common.{◌≡◌, ℕ, Bool, true, false, List, length, Option, None, Some, refl, sym, ◌∙◌, ap, subst}
-use Rattle.std.specs.Prelude.{Result, Ok, Err, nat_le, if◌then◌else◌, ◌&&◌}
+use Rattle.std.proofs.Common.{◌≡◌, Bool, true, false, List, length, Option, None, Some, refl, sym, ◌∙◌, ap}
+use Rattle.std.specs.Prelude.{Err, nat_le, if◌then◌else◌, ◌&&◌}
 use Rattle.rc_ids.specs.Tables.{maybe}
 use Rattle.rc_report.specs.declared.line.Line.{Line}
 use Rattle.rc_report.specs.declared.fault.Which.{Which}
@@ -11,7 +11,7 @@ use Rattle.rc_protocol.specs.Messages.{Posts, or_else}
 use Rattle.rc_runs.specs.World.{World, Parties, Deed, course_deed, sends_of, step, printed}
 use Rattle.rc_runs.specs.Refusals.{wrong, limit, worn_out, too_much_sent, begins, most_transactions, most_events}
 use Rattle.rc_runs.specs.Devices.{Device}
-use Rattle.rc_runs.specs.Session.{Session, Halt, Misnamed, Limited, FarmFails, DiskChange, disk_change, with_change, with_world, happens, happens_with, happens_within_limits, prints}
+use Rattle.rc_runs.specs.Session.{Session, Misnamed, Limited, FarmFails, DiskChange, disk_change, with_change, with_world, happens, happens_with, happens_within_limits, prints}
 use Rattle.rc_world.specs.Steps.{EventActed, Stepped, with_disks, early_limit, sent_limit, world_after, session_after}
 
 -- LIMITS

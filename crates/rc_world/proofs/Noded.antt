@@ -1,5 +1,5 @@
 -- A world after a node acted in an event.
-use Rattle.std.proofs.Common.{◌≡◌, ◌≢◌, ℕ, Bool, false, List, [], length, Option, None, Some, IsTrue, refl, sym, ◌∙◌, ap, subst}
+use Rattle.std.proofs.Common.{◌≡◌, ℕ, false, List, [], length, Option, None, IsTrue, sym, ◌∙◌, ap, subst}
 use Rattle.rc_ids.specs.Cluster.{Layout, is_dc}
 use Rattle.rc_protocol.specs.Nodes.{CoordNode}
 use Rattle.rc_order.specs.Orders.{Order, IsAsBefore}
@@ -9,22 +9,19 @@ use Rattle.rc_world.specs.Noted.{Notes}
 use Rattle.rc_world.specs.CoordActed.{CoordsActed}
 use Rattle.rc_world.proofs.Ordering.{room_keeps}
 use Rattle.rc_ids.specs.declared.names.NodeId.{NodeId}
-use Rattle.rc_ids.specs.declared.names.NodeId.TheVariants.{Shard as ShardServer}
 use Rattle.rc_ids.specs.declared.names.Party.TheVariants.{Node}
 use Rattle.rc_ids.specs.declared.sends.Letter.{Letter}
 use Rattle.rc_msg.specs.Outboxes.{Outbox}
 use Rattle.rc_report.specs.declared.line.Line.{Line}
 use Rattle.rc_runs.specs.declared.event.Event.{Event}
-use Rattle.rc_runs.specs.World.{Parties, Deed, Idle, deed, actor, with_coord}
+use Rattle.rc_runs.specs.World.{Idle, deed, actor, with_coord}
 use Rattle.rc_runs.specs.Refusals.{wrong, begins}
 use Rattle.rc_runs.specs.Session.{Session}
 use Rattle.rc_host.specs.declared.host.Host.{Host}
-use Rattle.rc_world.specs.Clients.{Roster, IsRoster}
 use Rattle.rc_world.specs.Hosts.{Views, Runs}
 use Rattle.rc_world.specs.Acted.{ShardsActed, with_shards}
 use Rattle.rc_world.specs.Steps.{EventActed, IsDone, event_limit}
-use Rattle.rc_world.specs.Worlds.{Parts, AreParties, IsWorld, HasActed}
-use Rattle.rc_world.specs.Mail.{letters_of}
+use Rattle.rc_world.specs.Worlds.{Parts, IsWorld, HasActed}
 use Rattle.rc_world.proofs.Told.{early}
 use Rattle.rc_world.proofs.ClientActs.{idles}
 

@@ -1,10 +1,9 @@
 -- The order of the logs after a coordinator left a record in its log.
-use Rattle.std.proofs.Common.{◌≡◌, ℕ, ◌-◌, List, [], ◌∷◌, ◌++◌, Option, None, Some, IsTrue, refl, sym, ap, subst, ◌∙◌, ◌⊎◌, inl, inr, ⊎_elim}
+use Rattle.std.proofs.Common.{◌≡◌, ℕ, List, [], ◌∷◌, ◌++◌, Option, None, Some, IsTrue, refl, sym, ap, subst, ◌∙◌, ⊎_elim}
 use Rattle.std.specs.Prelude.{slice_get, slice_set}
 use Rattle.std.proofs.lemmas.Option.{slice_get_within}
 use Rattle.rc_ids.specs.Tables.{maybe}
 use Rattle.rc_ids.specs.Cluster.{Layout, is_dc}
-use Rattle.rc_body.specs.declared.decision.Decision.{Decision}
 use Rattle.rc_body.specs.declared.decision.Decision.TheVariants.{Commit, Abort}
 use Rattle.rc_body.specs.declared.entry.Entry.{Entry}
 use Rattle.rc_record.specs.declared.record.Record.{Record}
@@ -12,7 +11,7 @@ use Rattle.rc_record.specs.declared.record.Record.TheVariants.{Head, Prepared, F
 use Rattle.rc_protocol.specs.Nodes.{CoordNode, coord_index, logged}
 use Rattle.rc_runs.specs.Votes.{ordered}
 use Rattle.rc_order.specs.Orders.{Order, IsAsBefore, vote_of}
-use Rattle.rc_order.specs.Counts.{AreCounted, IsOrderOf, HasWritten, CountLaws, log_at}
+use Rattle.rc_order.specs.Counts.{IsOrderOf, HasWritten, CountLaws, log_at}
 use Rattle.rc_world.specs.declared.votes.Vote.{Vote}
 use Rattle.rc_world.specs.Votes.{vote_in}
 use Rattle.rc_world.proofs.Lists.{set_at, set_other, same_or}

@@ -1,16 +1,13 @@
 -- A shard server acts in an event: what the event makes of the session, from how its append went on its disk.
-use Rattle.std.proofs.Common.{◌≡◌, ℕ, Bool, true, false, List, [], ◌∷◌, ◌++◌, Option, None, Some, refl, sym, ◌∙◌, ap, subst}
+use Rattle.std.proofs.Common.{◌≡◌, ℕ, Bool, true, List, [], ◌∷◌, ◌++◌, Option, None, Some, refl, sym, ◌∙◌, ap}
 use Rattle.std.specs.Prelude.{slice_get, slice_set, if◌then◌else◌}
 use Rattle.rc_ids.specs.Tables.{maybe}
-use Rattle.rc_ids.specs.Cluster.{Layout}
-use Rattle.rc_ids.specs.declared.names.NodeId.{NodeId}
 use Rattle.rc_ids.specs.declared.names.NodeId.TheVariants.{Shard as ShardServer}
 use Rattle.rc_record.specs.declared.record.Record.{Record}
 use Rattle.rc_report.specs.declared.line.Line.{Line}
 use Rattle.rc_report.specs.declared.line.Line.TheVariants.{Stopped, Up}
 use Rattle.rc_runs.specs.declared.event.Event.{Event}
 use Rattle.rc_runs.specs.declared.event.Event.TheVariants.{Crash, CrashAt, Restart}
-use Rattle.rc_protocol.specs.Messages.{Posts}
 use Rattle.rc_protocol.specs.Shard.{ShardAct}
 use Rattle.rc_protocol.specs.Acts.{NodeCause, Catches, shard_act}
 use Rattle.rc_protocol.specs.Nodes.{ShardNode, shard_index, shard_after, shard_started, shard_stopped}
@@ -20,7 +17,7 @@ use Rattle.rc_runs.specs.Devices.{Device, powered, armed, opened_once}
 use Rattle.rc_runs.specs.Session.{Session, DiskChange, no_device, device_in, device_of, with_device, change_on, disk_change, with_change}
 use Rattle.rc_world.specs.Steps.{EventActed, with_disks, deed_change}
 use Rattle.rc_world.proofs.Lists.{set_same}
-use Rattle.rc_world.proofs.Courses.{course_for, device_for, record_left, sends_left, lines_left}
+use Rattle.rc_world.proofs.Courses.{course_for, device_for, sends_left, lines_left}
 
 -- what an act leaves of the shard server
 abbrev pub shard_left : ShardNode → ShardAct → Course → ShardNode

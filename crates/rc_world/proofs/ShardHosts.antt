@@ -1,5 +1,5 @@
 -- A shard server on its host: what an act of the host makes of the shard server and of its device.
-use Rattle.std.proofs.Common.{◌≡◌, ℕ, suc, ◌<◌, ◌≤◌, Bool, true, false, List, [], ◌∷◌, ◌++◌, length, Option, None, Some, refl, sym, ◌∙◌, ap, subst, arith}
+use Rattle.std.proofs.Common.{◌≡◌, ℕ, ◌<◌, ◌≤◌, Bool, true, false, List, [], ◌∷◌, ◌++◌, length, Option, None, Some, refl, sym, ◌∙◌, ap, subst, arith}
 use Rattle.std.proofs.lemmas.Bool.Decides.{nat_tests}
 use Rattle.std.specs.Prelude.{if◌then◌else◌, slice_get, slice_set}
 use Rattle.rc_ids.specs.Tables.{maybe}
@@ -10,16 +10,15 @@ use Rattle.rc_record.specs.declared.record.Record.{Record}
 use Rattle.rc_record.specs.ShardState.{ShardDurable, shard_applied, new_durable}
 use Rattle.rc_msg.specs.Outboxes.{Outbox}
 use Rattle.rc_msg.specs.Posts.{posted_all}
-use Rattle.rc_protocol.specs.Messages.{Posts}
 use Rattle.rc_protocol.specs.Shard.{ShardAct}
 use Rattle.rc_protocol.specs.Acts.{NodeCause, shard_act}
 use Rattle.rc_protocol.specs.Nodes.{ShardNode, shard_index, shard_replayed, logged, applied}
 use Rattle.rc_runs.specs.declared.event.Event.{Event}
 use Rattle.rc_runs.specs.World.{Parties, Course as RunCourse, Goes as GoesOn, Stops as StopsInside, deed, shard_does as shard_does_at, by_shard, with_shard, is_shard_of}
 use Rattle.rc_runs.specs.Session.{Session}
-use Rattle.rc_runs.specs.Devices.{Device, appended, course_of, record_length}
+use Rattle.rc_runs.specs.Devices.{Device}
 use Rattle.rc_node.specs.Acts.{shard_does}
-use Rattle.rc_host.specs.AnyNode.{AnyAct, of_shard, node_act, shard_back, OfShard, OfShardNow}
+use Rattle.rc_host.specs.AnyNode.{of_shard, node_act, shard_back, OfShard, OfShardNow}
 use Rattle.rc_host.specs.Standing.{Standing, shard_standing}
 use Rattle.rc_host.specs.Hosts.{Sight, IsHost, Went, course_in, standing_after, posts_after}
 use Rattle.rc_host.specs.declared.host.Host.{Host}

@@ -1,9 +1,8 @@
 -- A command of a client, as an event of the session.
-use Rattle.std.proofs.Common.{◌≡◌, ℕ, Bool, true, false, List, [], ◌∷◌, ◌++◌, Option, None, Some, refl, sym, ◌∙◌, ap, subst}
+use Rattle.std.proofs.Common.{◌≡◌, ℕ, Bool, false, List, [], ◌++◌, Option, None, Some, refl, sym, ◌∙◌, ap, subst}
 use Rattle.std.specs.Prelude.{if◌then◌else◌, ◌&&◌, nat_le, length}
 use Rattle.std.specs.Ordering.{nat_cmp}
 use Rattle.rc_ids.specs.Tables.{found, maybe}
-use Rattle.rc_ids.specs.declared.names.Party.{Party}
 use Rattle.rc_ids.specs.declared.names.Party.TheVariants.{Client as ClientOf}
 use Rattle.rc_ids.specs.declared.sends.Letter.{Letter}
 use Rattle.rc_msg.specs.Outboxes.{Outbox, new_outbox}
@@ -11,7 +10,6 @@ use Rattle.rc_msg.specs.Posts.{posted_all}
 use Rattle.rc_protocol.specs.Nodes.{CoordNode, ShardNode}
 use Rattle.rc_world.specs.Places.{AreAt}
 use Rattle.rc_report.specs.declared.line.Line.{Line}
-use Rattle.rc_report.specs.declared.fault.Which.{Which}
 use Rattle.rc_report.specs.declared.fault.Which.TheVariants.{Transactions}
 use Rattle.rc_runs.specs.declared.event.Event.{Event}
 use Rattle.rc_runs.specs.declared.event.Event.TheVariants.{Begin, Read, Write, Commit, Cancel, Retry, Vanish, Take, Catch, Deliver, Lose, Crash, CrashAt, Restart}
@@ -25,9 +23,8 @@ use Rattle.rc_body.specs.declared.entry.Entry.{Entry}
 use Rattle.rc_order.specs.Orders.{Order}
 use Rattle.rc_order.specs.Counts.{IsOrderOf}
 use Rattle.rc_host.specs.declared.host.Host.{Host}
-use Rattle.rc_world.specs.Hosts.{Views, Runs, HostsAre, IsCoord, IsShard}
-use Rattle.rc_world.specs.Clients.{Roster, IsRoster, command, told, scene, Did}
-use Rattle.rc_world.specs.Mail.{letters_of}
+use Rattle.rc_world.specs.Hosts.{Views, Runs, IsCoord, IsShard}
+use Rattle.rc_world.specs.Clients.{IsRoster, command, told, scene, Did}
 use Rattle.rc_world.specs.Steps.{EventActed, IsDone, early_limit, event_limit}
 use Rattle.rc_world.specs.Worlds.{Parts, AreParties, IsWorld, HasActed}
 use Rattle.rc_world.proofs.ClientActs.{idles, client_acted}

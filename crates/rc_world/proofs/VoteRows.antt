@@ -1,6 +1,6 @@
 -- What a coordinator accepts is of the transaction of a proposal or of a shard's answer.
 use Rattle.std.proofs.Common.{◌≡◌, ℕ, Bool, true, false, List, [], ◌∷◌, Option, None, Some, refl}
-use Rattle.std.specs.Prelude.{nat_lt, if◌then◌else◌, ◌+◌}
+use Rattle.std.specs.Prelude.{nat_lt, if◌then◌else◌}
 use Rattle.std.specs.Ordering.{nat_cmp}
 use Rattle.rc_ids.specs.Tables.{found, maybe}
 use Rattle.rc_ids.specs.Cluster.{Layout, is_dc, is_shard, next_ballot}
@@ -8,7 +8,6 @@ use Rattle.rc_ids.specs.declared.names.Party.{Party}
 use Rattle.rc_body.specs.declared.decision.Decision.{Decision}
 use Rattle.rc_body.specs.declared.decision.Decision.TheVariants.{Abort, Commit}
 use Rattle.rc_body.specs.declared.reason.Reason.{Reason}
-use Rattle.rc_body.specs.declared.reason.Reason.TheVariants.{Promised as PromisedHigher}
 use Rattle.rc_msg.specs.declared.msg.Msg.{Msg}
 use Rattle.rc_msg.specs.declared.msg.Msg.TheVariants.{ReadAsk, ReadCancel, Granted, Propose, Prepare, Prepared, Voted, Refused, Ask, Promise, Decided, Finish, Abandon, CatchAsk, CatchPage}
 use Rattle.rc_record.specs.declared.record.Record.{Record}
@@ -16,7 +15,7 @@ use Rattle.rc_record.specs.declared.record.Record.TheVariants.{Promised}
 use Rattle.rc_record.specs.CoordState.{CoordDurable, promise_of, outcome_of}
 use Rattle.rc_protocol.specs.Messages.{coordinator}
 use Rattle.rc_protocol.specs.Acts.{NodeCause, Came, Catches, Takes, coord_act}
-use Rattle.rc_protocol.specs.Coordinator.{CoordVolatile, CoordAct, GatherState, TakeoverState, coord_stays, takes_over, promise_record, promises_at, on_ask, on_promise, on_voted, on_decided, on_catch_page, on_propose, on_prepared, waiting_takeover, chooses, hears, tally_of, is_decided_by, is_next_coord_page, undecided, outcomes_record, takes_page, with_coord_cursor, asks_next_coord_page, with_gather, gathers_on, gather_at, takes_proposal, has_all, accepted_at, waiting_gather, said_yes, with_yes}
+use Rattle.rc_protocol.specs.Coordinator.{CoordVolatile, CoordAct, GatherState, coord_stays, takes_over, promise_record, promises_at, on_ask, on_promise, on_voted, on_decided, on_catch_page, on_propose, on_prepared, waiting_takeover, chooses, hears, tally_of, is_decided_by, is_next_coord_page, undecided, outcomes_record, takes_page, with_coord_cursor, asks_next_coord_page, gathers_on, gather_at, takes_proposal, has_all, accepted_at, waiting_gather, said_yes, with_yes}
 use Rattle.rc_world.specs.Votes.{votes_on, IsNoVote, IsVoteOn}
 
 module _ (P : Option Record → Type 0) where

@@ -1,5 +1,5 @@
 -- Hosts that are well, among all.
-use Rattle.std.proofs.Common.{◌≡◌, ℕ, zero, suc, ◌<◌, Bool, true, false, List, [], ◌∷◌, length, IsTrue, refl, sym, ap, subst, ◌∙◌, arith}
+use Rattle.std.proofs.Common.{◌≡◌, ℕ, zero, suc, ◌<◌, Bool, true, false, List, [], ◌∷◌, length, IsTrue, refl, sym, subst, arith}
 use Rattle.std.specs.Prelude.{slice_set, slice_index_or, ◌&&◌, not}
 use Rattle.std.specs.List.{list_all}
 use Rattle.rc_host.specs.Hosts.{IfUp, IsThere}

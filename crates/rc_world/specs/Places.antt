@@ -1,5 +1,5 @@
 -- Nodes at their places: d1, d2 and so on, and d1.s1, d1.s2 and so on, then those of d2.
-use Rattle.std.specs.Prelude.{◌≡◌, ℕ, suc, ◌+◌, ◌/◌, ◌%◌, List, length, Some, slice_get}
+use Rattle.std.specs.Prelude.{◌≡◌, ℕ, suc, ◌/◌, ◌%◌, List, length, Some, slice_get}
 use Rattle.rc_ids.specs.Cluster.{Layout}
 use Rattle.rc_ids.specs.declared.names.NodeId.{NodeId}
 use Rattle.rc_ids.specs.declared.names.NodeId.TheVariants.{Coord, Shard as ShardServer}

@@ -90,8 +90,7 @@ impl<F: Farm> World<F> {
         let place = dc.0 as usize - 1;
         if place < self.coords.len() {
             self.order.room()?;
-            let (out, vote) =
-                coord_acts(self.alloc, &mut self.coords, place, &node, cause, lines)?;
+            let (out, vote) = coord_acts(self.alloc, &mut self.coords, place, &node, cause, lines)?;
             note(&mut self.order, dc, vote);
             return Ok(Sending {
                 from: Party::Node(node),

@@ -1,4 +1,4 @@
-use Rattle.std.proofs.Common.{◌≡◌, sym, ◌∙◌}
+use Rattle.std.proofs.Common.{sym, ◌∙◌}
 use Rattle.rc_world.proofs.Ordering.{none_noted, one_noted}
 use Rattle.rc_world.proofs.noting.note.Goals as goal
 

@@ -1,4 +1,4 @@
-use Rattle.std.proofs.Common.{◌≡◌, ℕ, Option, refl, sym, ap, ◌∙◌}
+use Rattle.std.proofs.Common.{ℕ, Option, refl, sym, ap, ◌∙◌}
 use Rattle.std.specs.Prelude.{is_some}
 use Rattle.rc_protocol.specs.Acts.{ClientCause}
 use Rattle.rc_world.proofs.Told.{is_told, client_did}

@@ -1,6 +1,5 @@
-use Rattle.std.proofs.Common.{◌≡◌, ◌<◌, ◌≤◌, ◌-◌, ℕ, length, true, refl, sym, ap, subst, ◌∙◌, arith}
-use Rattle.std.proofs.lemmas.Bool.Decides.{nat_tests}
-use Rattle.rc_ids.specs.Cluster.{Layout, is_dc}
+use Rattle.std.proofs.Common.{◌≡◌, ◌<◌, ◌≤◌, ◌-◌, ℕ, length, true, refl, sym, ap, subst, arith}
+use Rattle.rc_ids.specs.Cluster.{is_dc}
 use Rattle.rc_ids.specs.declared.names.NodeId.TheVariants.{Coord as Coordinator}
 use Rattle.rc_protocol.specs.Nodes.{coord_index}
 use Rattle.rc_world.proofs.Noded.{coords_did}

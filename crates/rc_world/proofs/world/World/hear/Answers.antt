@@ -1,4 +1,4 @@
-use Rattle.std.proofs.Common.{◌≡◌, refl, sym, ◌∙◌}
+use Rattle.std.proofs.Common.{refl, sym, ◌∙◌}
 use Rattle.rc_protocol.specs.Acts.{Hears}
 use Rattle.rc_world.proofs.Told.{client_did}
 use Rattle.rc_world.proofs.world.World.hear.Goals as goal
