@@ -27,3 +27,4 @@ pub mod CoordFaults
 pub mod CoordVotes
 pub mod CoordTurns
 pub mod Ordering
+pub mod Received

@@ -45,7 +45,7 @@ is_there n w k mail = ap (λ (o : Option Message). is_some o) (parcel_is n w k m
     by_option None = refl
     by_option (Some e) = refl
 
-spelled_at : (es : List Envelope) (k : ℕ) (e : Envelope) → All HasEnvelope es → message es k ≡ Some e → HasEnvelope e
+pub spelled_at : (es : List Envelope) (k : ℕ) (e : Envelope) → All HasEnvelope es → message es k ≡ Some e → HasEnvelope e
 spelled_at es zero e all at = absurd (cc)
 spelled_at es (suc k) e all at =
     let there : slice_get es k ≡ Some e = sym (message_suc es k) ∙ at in

@@ -1,12 +1,15 @@
 -- What an event makes of a session, but for the count of its text.
 use Rattle.std.specs.Prelude.{◌≡◌, ℕ, ◌+◌, ◌&&◌, nat_lt, nat_le, List, [], length, Option, Some, None, if◌then◌else◌}
 use Rattle.rc_ids.specs.Tables.{maybe}
+use Rattle.rc_ids.specs.declared.names.NodeId.{NodeId}
+use Rattle.rc_ids.specs.declared.names.NodeId.TheVariants.{Coord, Shard as ShardServer}
 use Rattle.rc_report.specs.declared.line.Line.{Line}
 use Rattle.rc_report.specs.declared.fault.Which.{Which}
 use Rattle.rc_report.specs.declared.fault.Which.TheVariants.{Transactions, Events, Messages, MessageBytes}
 use Rattle.rc_runs.specs.declared.event.Event.{Event}
 use Rattle.rc_protocol.specs.Messages.{Posts}
-use Rattle.rc_runs.specs.World.{World, Parties, Deed, deed, restart_lines, actor, after_begin, at_deed, with_parties, posted, envelopes, bytes_of, course_deed, parties_after, sends_of, step, printed}
+use Rattle.rc_protocol.specs.Acts.{NodeCause}
+use Rattle.rc_runs.specs.World.{World, Parties, Deed, deed, coord_does, shard_does, restart_lines, actor, after_begin, at_deed, with_parties, posted, envelopes, bytes_of, course_deed, parties_after, sends_of, step, printed}
 use Rattle.rc_runs.specs.Refusals.{wrong, limit, worn_out, begins, most_transactions, most_events, most_messages, most_message_bytes}
 use Rattle.rc_runs.specs.Devices.{Device, appended}
 use Rattle.rc_runs.specs.Session.{Session, DiskChange, device_of, no_change, append_of, append_change, disk_change, with_change, with_world}
@@ -18,6 +21,11 @@ with_disks z coords shards = record { world = z.world; coords = coords; shards =
 -- what the deed asks of a disk
 abbrev pub deed_change : Session → Deed → DiskChange
 deed_change z dd = maybe (append_of dd) no_change (λ a. append_change a.0 (appended (device_of z a.0) a.1))
+
+-- a node does what moves it
+abbrev pub node_does : Parties → NodeId → NodeCause → Deed
+node_does w (Coord d) cause = coord_does w d cause
+node_does w (ShardServer d sh) cause = shard_does w d sh cause
 
 -- the event is one in which a party does a deed
 pub record IsDone (z : Session) (e : Event) : Type 0 where

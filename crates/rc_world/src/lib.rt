@@ -8,6 +8,7 @@ mod fault;
 mod mail;
 mod nodes;
 mod noting;
+mod receiving;
 mod sending;
 mod shards;
 mod turns;

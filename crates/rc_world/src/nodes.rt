@@ -11,7 +11,7 @@ ghost use Rattle.rc_grammar.specs.Acts.{HasNodeCause};
 ghost use Rattle.rc_world.specs.Words.{parts_of, views};
 ghost use Rattle.rc_world.specs.Places.{coord_name, shard_name};
 ghost use Rattle.rc_world.specs.Hosts.{Runs, HaveReadsLeft, CoordsAreTold, ShardsAreTold};
-ghost use Rattle.rc_world.specs.Steps.{IsDone};
+ghost use Rattle.rc_world.specs.Steps.{IsDone, node_does};
 ghost use Rattle.rc_world.specs.Worlds.{IsWorld, HasActed, KeepsCarried};
 
 use crate::WorldFault;
@@ -101,5 +101,27 @@ impl<F: Farm> World<F> {
             from: Party::Node(node),
             sends: Sends::new(self.alloc),
         })
+    }
+
+    /// A node, if it is one of the world and up, does what moves it.
+    pub(crate) fn node_does(
+        &mut self,
+        node: &NodeId,
+        cause: &Cause<'_>,
+        lines: &mut Lines,
+    ) -> Result<Sending, WorldFault>
+        requires lines { lines.old ≡ [] }
+        ensures ok { (r : Runs) (z : Session) (e : AnyEvent) → IsWorld (views ⟦<Log<F::D> as Journal>⟧.state F.D.told F.D.content F.D.power) r (parts_of self.old) z
+            → HasNodeCause (cause_of cause.now) → IsDone z e → deed z.world.parties z.world.sent e ≡ node_does z.world.parties node.now (cause_of cause.now) → actor z.world.sent e ≡ NodeParty node.now
+            → wrong z.world e ≡ None → begins e ≡ false → HaveReadsLeft r coord_name z.coords → HaveReadsLeft r (shard_name r.cluster) z.shards
+            → CoordsAreTold (views ⟦<Log<F::D> as Journal>⟧.state F.D.told F.D.content F.D.power).coords r (parts_of self.new).coords
+            → ShardsAreTold (views ⟦<Log<F::D> as Journal>⟧.state F.D.told F.D.content F.D.power).shards r (parts_of self.new).shards
+            → IfOk result (λ s. HasActed (views ⟦<Log<F::D> as Journal>⟧.state F.D.told F.D.content F.D.power) r z e (parts_of self.new) s.from s.sends lines.new) }
+        ensures carried { KeepsCarried (parts_of self.old) (parts_of self.new) }
+    {
+        match node {
+            NodeId::Coord(dc) => self.coord_does(*dc, cause, lines),
+            NodeId::Shard(dc, shard) => self.shard_does(*dc, *shard, cause, lines),
+        }
     }
 }

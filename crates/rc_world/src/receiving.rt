@@ -1,0 +1,66 @@
+// Messages come.
+ghost use Rattle.std.specs.Prelude.{◌≡◌, [], false, None, IfOk};
+ghost use Rattle.rc_msg.specs.Spelling.{HasEnvelope};
+ghost use Rattle.rc_runs.specs.declared.event.Event.{Event as AnyEvent};
+ghost use Rattle.rc_runs.specs.declared.event.Event.TheVariants.{Deliver};
+ghost use Rattle.rc_runs.specs.Refusals.{wrong, begins};
+ghost use Rattle.rc_runs.specs.Session.{Session};
+ghost use Rattle.rc_runs.specs.World.{deed, received, actor};
+ghost use Rattle.rc_world.specs.Words.{parts_of, views};
+ghost use Rattle.rc_world.specs.Clients.{AreOf};
+ghost use Rattle.rc_world.specs.Places.{coord_name, shard_name};
+ghost use Rattle.rc_world.specs.Hosts.{Runs, HaveReadsLeft, CoordsAreTold, ShardsAreTold};
+ghost use Rattle.rc_world.specs.Steps.{IsDone};
+ghost use Rattle.rc_world.specs.Worlds.{IsWorld, HasActed, KeepsCarried};
+
+use crate::WorldFault;
+use crate::mail::{message, wrong_delivery};
+use crate::world::{Sending, World};
+use rc_disk::{Disk, Farm};
+use rc_host::Cause;
+use rc_ids::Party;
+use rc_log::{Journal, Log};
+use rc_msg::Envelope;
+use rc_report::{Lines, Wrong};
+
+impl<F: Farm> World<F> {
+    /// The party to which a message is sent does what it does at it.
+    fn receive(&mut self, envelope: &Envelope, lines: &mut Lines) -> Result<Sending, WorldFault>
+        requires of { AreOf self.old.cluster self.old.clients.cores }
+        requires lines { lines.old ≡ [] }
+        ensures ok { (r : Runs) (z : Session) (e : AnyEvent) → IsWorld (views ⟦<Log<F::D> as Journal>⟧.state F.D.told F.D.content F.D.power) r (parts_of self.old) z
+            → HasEnvelope envelope.now → IsDone z e → deed z.world.parties z.world.sent e ≡ received z.world.parties envelope.now envelope.now.to → actor z.world.sent e ≡ envelope.now.to → wrong z.world e ≡ None → begins e ≡ false
+            → HaveReadsLeft r coord_name z.coords → HaveReadsLeft r (shard_name r.cluster) z.shards
+            → CoordsAreTold (views ⟦<Log<F::D> as Journal>⟧.state F.D.told F.D.content F.D.power).coords r (parts_of self.new).coords
+            → ShardsAreTold (views ⟦<Log<F::D> as Journal>⟧.state F.D.told F.D.content F.D.power).shards r (parts_of self.new).shards
+            → IfOk result (λ s. HasActed (views ⟦<Log<F::D> as Journal>⟧.state F.D.told F.D.content F.D.power) r z e (parts_of self.new) s.from s.sends lines.new) }
+        ensures carried { KeepsCarried (parts_of self.old) (parts_of self.new) }
+    {
+        match &envelope.to {
+            Party::Client(tx) => self.hear(*tx, &envelope.msg, lines),
+            Party::Node(node) => {
+                self.node_does(node, &Cause::Came(envelope.from, &envelope.msg), lines)
+            }
+        }
+    }
+
+    /// A message is delivered, for the first time or again.
+    pub(crate) fn deliver(&mut self, number: u32, lines: &mut Lines) -> Result<Sending, WorldFault>
+        requires of { AreOf self.old.cluster self.old.clients.cores }
+        requires lines { lines.old ≡ [] }
+        ensures ok { (r : Runs) (z : Session) → IsWorld (views ⟦<Log<F::D> as Journal>⟧.state F.D.told F.D.content F.D.power) r (parts_of self.old) z
+            → HaveReadsLeft r coord_name z.coords → HaveReadsLeft r (shard_name r.cluster) z.shards
+            → CoordsAreTold (views ⟦<Log<F::D> as Journal>⟧.state F.D.told F.D.content F.D.power).coords r (parts_of self.new).coords
+            → ShardsAreTold (views ⟦<Log<F::D> as Journal>⟧.state F.D.told F.D.content F.D.power).shards r (parts_of self.new).shards
+            → IfOk result (λ s. HasActed (views ⟦<Log<F::D> as Journal>⟧.state F.D.told F.D.content F.D.power) r z (Deliver number) (parts_of self.new) s.from s.sends lines.new) }
+        ensures carried { KeepsCarried (parts_of self.old) (parts_of self.new) }
+    {
+        if let Some(name) = wrong_delivery(&self.net, number) {
+            return Err(WorldFault::Naming(name));
+        }
+        match message(self.alloc, &self.net, number)? {
+            Some(envelope) => self.receive(&envelope, lines),
+            None => Err(WorldFault::Naming(Wrong::NotSent(number))),
+        }
+    }
+}
