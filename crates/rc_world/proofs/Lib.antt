@@ -28,3 +28,4 @@ pub mod CoordVotes
 pub mod CoordTurns
 pub mod Ordering
 pub mod Received
+pub mod Standings

@@ -1,5 +1,6 @@
 -- The nodes of a world on their hosts.
-use Rattle.std.specs.Prelude.{◌≡◌, ◌<◌, ◌+◌, ◌-◌, ◌^◌, ℕ, List, slice_get, Some}
+use Rattle.std.specs.Prelude.{◌≡◌, ◌<◌, ◌+◌, ◌-◌, ◌^◌, ℕ, Bool, false, List, slice_get, Some}
+use Rattle.rc_ids.specs.Tables.{maybe}
 use Rattle.rc_ids.specs.Cluster.{Layout}
 use Rattle.rc_ids.specs.declared.names.NodeId.{NodeId}
 use Rattle.rc_disk.specs.Calls.{Told}
@@ -12,7 +13,7 @@ use Rattle.rc_runs.specs.Farms.{reads_at}
 use Rattle.rc_runs.specs.World.{Parties}
 use Rattle.rc_host.specs.AnyNode.{coord_back, shard_back}
 use Rattle.rc_host.specs.Standing.{coord_standing, shard_standing}
-use Rattle.rc_host.specs.Hosts.{Sight, Run, IsHost, IsToldBy}
+use Rattle.rc_host.specs.Hosts.{Sight, Run, IsHost, IsToldBy, is_up}
 use Rattle.rc_host.specs.declared.host.Host.{Host}
 use Rattle.rc_world.specs.Places.{coord_name, shard_name, AreAt, AllAt}
 
@@ -43,6 +44,10 @@ pub record IsShard {S J D : Type 0} (s : Sight S J D) (r : Runs) (place : ℕ) (
 pub record HostsAre {C S J D : Type 0} (v : Views C S J D) (r : Runs) (coords : List (Host C J D)) (shards : List (Host S J D)) (p : Parties) (coord_devices shard_devices : List Device) : Type 0 where
   pub of_coords : AreAt (IsCoord v.coords r) coords p.coords coord_devices
   pub of_shards : AreAt (IsShard v.shards r) shards p.shards shard_devices
+
+-- there is a host at the place, and its node is up
+abbrev pub is_up_at : {N J D : Type 0} → List (Host N J D) → ℕ → Bool
+is_up_at hosts place = maybe (slice_get hosts place) false (λ h. is_up h)
 
 -- what the disks tell now is told at the end still
 abbrev pub CoordsAreTold : {C J D : Type 0} → Sight C J D → Runs → List (Host C J D) → Type 0

@@ -11,6 +11,7 @@ mod noting;
 mod receiving;
 mod sending;
 mod shards;
+mod standing;
 mod turns;
 mod votes;
 mod world;

@@ -3,6 +3,7 @@ ghost use Rattle.std.specs.Prelude.{◌≡◌, [], false, None, IfOk, IfErr};
 ghost use Rattle.rc_ids.specs.declared.names.NodeId.TheVariants.{Coord as Coordinator, Shard as ShardServer};
 ghost use Rattle.rc_ids.specs.declared.names.Party.TheVariants.{Node as NodeParty};
 ghost use Rattle.rc_runs.specs.declared.event.Event.{Event as AnyEvent};
+ghost use Rattle.rc_runs.specs.declared.event.Event.TheVariants.{Catch, Take};
 ghost use Rattle.rc_runs.specs.Refusals.{wrong, begins};
 ghost use Rattle.rc_runs.specs.Session.{Session};
 ghost use Rattle.rc_runs.specs.World.{deed, coord_does, shard_does, actor};
@@ -21,10 +22,10 @@ use crate::shards::{is_shard_of, place_of, shard_acts};
 use crate::world::{Sending, World};
 use rc_disk::{Disk, Farm};
 use rc_host::Cause;
-use rc_ids::{DcId, NodeId, Party, Sends, ShardId};
+use rc_ids::{DcId, NodeId, Party, Sends, ShardId, TxId};
 use rc_log::{Journal, Log};
 use rc_order::count_laws;
-use rc_report::Lines;
+use rc_report::{Lines, Wrong};
 
 impl<F: Farm> World<F> {
     /// A shard server, if it is one of the world and up, does what moves it.
@@ -123,5 +124,44 @@ impl<F: Farm> World<F> {
             NodeId::Coord(dc) => self.coord_does(*dc, cause, lines),
             NodeId::Shard(dc, shard) => self.shard_does(*dc, *shard, cause, lines),
         }
+    }
+
+    /// A node that is up catches up with the others.
+    pub(crate) fn catch(
+        &mut self,
+        node: &NodeId,
+        lines: &mut Lines,
+    ) -> Result<Sending, WorldFault>
+        requires lines { lines.old ≡ [] }
+        ensures ok { (r : Runs) (z : Session) → IsWorld (views ⟦<Log<F::D> as Journal>⟧.state F.D.told F.D.content F.D.power) r (parts_of self.old) z
+            → HaveReadsLeft r coord_name z.coords → HaveReadsLeft r (shard_name r.cluster) z.shards
+            → CoordsAreTold (views ⟦<Log<F::D> as Journal>⟧.state F.D.told F.D.content F.D.power).coords r (parts_of self.new).coords
+            → ShardsAreTold (views ⟦<Log<F::D> as Journal>⟧.state F.D.told F.D.content F.D.power).shards r (parts_of self.new).shards
+            → IfOk result (λ s. HasActed (views ⟦<Log<F::D> as Journal>⟧.state F.D.told F.D.content F.D.power) r z (Catch node.now) (parts_of self.new) s.from s.sends lines.new) }
+        ensures carried { KeepsCarried (parts_of self.old) (parts_of self.new) }
+    {
+        self.wants_up(node)?;
+        self.node_does(node, &Cause::Catches, lines)
+    }
+
+    /// A coordinator that is up takes a transaction over.
+    pub(crate) fn take(
+        &mut self,
+        dc: DcId,
+        tx: TxId,
+        lines: &mut Lines,
+    ) -> Result<Sending, WorldFault>
+        requires lines { lines.old ≡ [] }
+        ensures ok { (r : Runs) (z : Session) → IsWorld (views ⟦<Log<F::D> as Journal>⟧.state F.D.told F.D.content F.D.power) r (parts_of self.old) z
+            → HaveReadsLeft r coord_name z.coords
+            → CoordsAreTold (views ⟦<Log<F::D> as Journal>⟧.state F.D.told F.D.content F.D.power).coords r (parts_of self.new).coords
+            → IfOk result (λ s. HasActed (views ⟦<Log<F::D> as Journal>⟧.state F.D.told F.D.content F.D.power) r z (Take dc tx) (parts_of self.new) s.from s.sends lines.new) }
+        ensures carried { KeepsCarried (parts_of self.old) (parts_of self.new) }
+    {
+        self.wants_up(&NodeId::Coord(dc))?;
+        if !self.clients.is_begun(tx) {
+            return Err(WorldFault::Naming(Wrong::NotBegun(tx)));
+        }
+        self.coord_does(dc, &Cause::Takes(tx), lines)
     }
 }
