@@ -45,6 +45,7 @@ module _ {C S J D : Type 0} (v : Views C S J D) (r : Runs) (w : Parts (Host C J 
     where
       at : (place : ℕ) (h : Host C J D) (x : CoordNode) (e : Device) → IsCoord v.coords r place h x e → x.up ≡ is_up h
       at place h x e is = up_is v.coords (coord_back (coord_name place) r.cluster) (run_at r (coord_name place)) h (coord_standing x) e is.host
+
       by_place : (b : Bool) → (if b then is_up_at w.coords (coord_index d) else false) ≡ maybe (if b then slice_get p.coords (coord_index d) else None) false (λ (x : CoordNode). x.up)
       by_place true = up_there (IsCoord v.coords r) (λ (x : CoordNode). x.up) at w.coords p.coords coords are.hosts.of_coords (coord_index d)
       by_place false = refl
@@ -54,6 +55,7 @@ module _ {C S J D : Type 0} (v : Views C S J D) (r : Runs) (w : Parts (Host C J 
     where
       at : (place : ℕ) (h : Host S J D) (x : ShardNode) (e : Device) → IsShard v.shards r place h x e → x.up ≡ is_up h
       at place h x e is = up_is v.shards (shard_back (shard_name r.cluster place) r.cluster) (run_at r (shard_name r.cluster place)) h (shard_standing x) e is.host
+
       by_place : (b : Bool) → (if b then is_up_at w.shards (shard_index p.layout d sh) else false) ≡ maybe (if b then slice_get p.shards (shard_index p.layout d sh) else None) false (λ (x : ShardNode). x.up)
       by_place true = up_there (IsShard v.shards r) (λ (x : ShardNode). x.up) at w.shards p.shards shards are.hosts.of_shards (shard_index p.layout d sh)
       by_place false = refl

@@ -9,6 +9,7 @@ ghost use Rattle.rc_runs.specs.Session.{Session};
 ghost use Rattle.rc_runs.specs.World.{deed, coord_does, shard_does, actor};
 ghost use Rattle.rc_host.specs.Causes.{cause_of};
 ghost use Rattle.rc_grammar.specs.Acts.{HasNodeCause};
+ghost use Rattle.rc_grammar.specs.Worlds.{HasEvent};
 ghost use Rattle.rc_world.specs.Words.{parts_of, views};
 ghost use Rattle.rc_world.specs.Places.{coord_name, shard_name};
 ghost use Rattle.rc_world.specs.Hosts.{Runs, HaveReadsLeft, CoordsAreTold, ShardsAreTold};
@@ -127,11 +128,7 @@ impl<F: Farm> World<F> {
     }
 
     /// A node that is up catches up with the others.
-    pub(crate) fn catch(
-        &mut self,
-        node: &NodeId,
-        lines: &mut Lines,
-    ) -> Result<Sending, WorldFault>
+    pub(crate) fn catch(&mut self, node: &NodeId, lines: &mut Lines) -> Result<Sending, WorldFault>
         requires lines { lines.old ≡ [] }
         ensures ok { (r : Runs) (z : Session) → IsWorld (views ⟦<Log<F::D> as Journal>⟧.state F.D.told F.D.content F.D.power) r (parts_of self.old) z
             → HaveReadsLeft r coord_name z.coords → HaveReadsLeft r (shard_name r.cluster) z.shards
@@ -153,7 +150,7 @@ impl<F: Farm> World<F> {
     ) -> Result<Sending, WorldFault>
         requires lines { lines.old ≡ [] }
         ensures ok { (r : Runs) (z : Session) → IsWorld (views ⟦<Log<F::D> as Journal>⟧.state F.D.told F.D.content F.D.power) r (parts_of self.old) z
-            → HaveReadsLeft r coord_name z.coords
+            → HasEvent (Take dc tx) → HaveReadsLeft r coord_name z.coords
             → CoordsAreTold (views ⟦<Log<F::D> as Journal>⟧.state F.D.told F.D.content F.D.power).coords r (parts_of self.new).coords
             → IfOk result (λ s. HasActed (views ⟦<Log<F::D> as Journal>⟧.state F.D.told F.D.content F.D.power) r z (Take dc tx) (parts_of self.new) s.from s.sends lines.new) }
         ensures carried { KeepsCarried (parts_of self.old) (parts_of self.new) }
