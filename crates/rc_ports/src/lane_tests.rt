@@ -20,7 +20,7 @@ impl<'a> Lane for Meeting<'a> {
 
     fn run(&mut self) {
         self.arrived.fetch_add(1, Ordering::SeqCst);
-        for _ in 0..10_000_000u64 {
+        for _ in 0..4_000_000_000u64 {
             if self.arrived.load(Ordering::SeqCst) == self.wanted {
                 self.met = true;
                 break;
