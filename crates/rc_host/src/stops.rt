@@ -21,6 +21,7 @@ pub fn crash<D: Disk, N: Node<Log<D>>>(host: &mut Host<N, Log<D>, D>)
         → IsHost (sight N.seen ⟦<Log<D> as Journal>⟧.state D.told D.content D.power) (N.back run.node run.cluster) run host.new (stopped x) (powered d) }
     ensures idle { is_up host.old ≡ false → host.new ≡ host.old }
     ensures down { is_up host.new ≡ false }
+    ensures there { IsThere host.old → IsThere host.new }
     ensures grew { (ended : Told) → IsToldBy (sight N.seen ⟦<Log<D> as Journal>⟧.state D.told D.content D.power) host.new ended → IsToldBy (sight N.seen ⟦<Log<D> as Journal>⟧.state D.told D.content D.power) host.old ended }
 {
     match mem::replace(host, Host::Lent) {
@@ -42,6 +43,7 @@ pub fn arm<D: Disk, N: Node<Log<D>>>(host: &mut Host<N, Log<D>, D>, k: u64, pick
         → IsHost (sight N.seen ⟦<Log<D> as Journal>⟧.state D.told D.content D.power) (N.back run.node run.cluster) run host.new x (armed d k pick) }
     ensures idle { is_up host.old ≡ false → host.new ≡ host.old }
     ensures same { is_up host.new ≡ is_up host.old }
+    ensures there { IsThere host.old → IsThere host.new }
     ensures up { IfUp host.new (λ node. (N.seen node).stopped ≡ false) }
     ensures grew { (ended : Told) → IsToldBy (sight N.seen ⟦<Log<D> as Journal>⟧.state D.told D.content D.power) host.new ended → IsToldBy (sight N.seen ⟦<Log<D> as Journal>⟧.state D.told D.content D.power) host.old ended }
 {

@@ -29,3 +29,5 @@ pub mod CoordTurns
 pub mod Ordering
 pub mod Received
 pub mod Standings
+pub mod CoordStops
+pub mod ShardStops

@@ -2,7 +2,7 @@
 use Rattle.std.proofs.Common.{◌≡◌, ℕ, zero, suc, ◌<◌, Bool, true, false, List, [], ◌∷◌, length, IsTrue, refl, sym, subst, arith}
 use Rattle.std.specs.Prelude.{slice_set, slice_index_or, ◌&&◌, not}
 use Rattle.std.specs.List.{list_all}
-use Rattle.rc_host.specs.Hosts.{IfUp, IsThere}
+use Rattle.rc_host.specs.Hosts.{IfUp, IsThere, is_up}
 use Rattle.rc_host.specs.declared.host.Host.{Host}
 use Rattle.rc_host.specs.declared.host.Host.TheVariants.{Up, Opened, Down, Lent}
 use Rattle.rc_world.specs.Wells.{is_well}
@@ -48,3 +48,10 @@ module _ {N J D : Type 0} (stopped : N → Bool) where
   well_set (g ∷ hs) (suc i) h is there up =
       let k = both (is_well stopped g) (list_all (is_well stopped) hs) is in
       all (is_well stopped g) (list_all (is_well stopped) (slice_set hs i h)) k.0 (well_set hs i h k.1 there up)
+
+  -- a node that is down is not stopped
+  pub down_is_fine : (h : Host N J D) → is_up h ≡ false → IfUp h (λ n. stopped n ≡ false)
+  down_is_fine (Up node) down = absurd (cc)
+  down_is_fine (Opened journal blobs) down = tt
+  down_is_fine (Down disk) down = tt
+  down_is_fine Lent down = tt

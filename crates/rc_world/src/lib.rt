@@ -12,6 +12,7 @@ mod receiving;
 mod sending;
 mod shards;
 mod standing;
+mod stopping;
 mod turns;
 mod votes;
 mod world;
