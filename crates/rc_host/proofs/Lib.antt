@@ -13,3 +13,4 @@ pub mod Restarting
 pub mod Beginning
 pub mod Starting
 pub mod StandingFacts
+pub mod Rejoining

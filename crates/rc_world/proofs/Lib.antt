@@ -31,3 +31,4 @@ pub mod Received
 pub mod Standings
 pub mod CoordStops
 pub mod ShardStops
+pub mod Weighing

@@ -11,12 +11,12 @@ goes : (b : Bool) → IsTrue (not b) → b ≡ false
 goes true is = absurd (cc)
 goes false is = refl
 
-both : (a b : Bool) → IsTrue (a && b) → IsTrue a × IsTrue b
+pub both : (a b : Bool) → IsTrue (a && b) → IsTrue a × IsTrue b
 both true true is = (refl, refl)
 both true false is = absurd (cc)
 both false b is = absurd (cc)
 
-all : (a b : Bool) → IsTrue a → IsTrue b → IsTrue (a && b)
+pub all : (a b : Bool) → IsTrue a → IsTrue b → IsTrue (a && b)
 all true true x y = refl
 all true false x y = absurd (cc)
 all false b x y = absurd (cc)

@@ -1,5 +1,5 @@
 -- The nodes of a world on their hosts.
-use Rattle.std.specs.Prelude.{◌≡◌, ◌<◌, ◌+◌, ◌-◌, ◌^◌, ℕ, Bool, false, List, slice_get, Some}
+use Rattle.std.specs.Prelude.{◌≡◌, ◌<◌, ◌+◌, ◌-◌, ◌^◌, ℕ, Bool, false, List, slice_get, Some, IfSome}
 use Rattle.rc_ids.specs.Tables.{maybe}
 use Rattle.rc_ids.specs.Cluster.{Layout}
 use Rattle.rc_ids.specs.declared.names.NodeId.{NodeId}
@@ -14,6 +14,7 @@ use Rattle.rc_runs.specs.World.{Parties}
 use Rattle.rc_host.specs.AnyNode.{coord_back, shard_back}
 use Rattle.rc_host.specs.Standing.{coord_standing, shard_standing}
 use Rattle.rc_host.specs.Hosts.{Sight, Run, IsHost, IsToldBy, is_up}
+use Rattle.rc_host.specs.Disks.{told_by}
 use Rattle.rc_host.specs.declared.host.Host.{Host}
 use Rattle.rc_world.specs.Places.{coord_name, shard_name, AreAt, AllAt}
 
@@ -59,3 +60,7 @@ ShardsAreTold s r shards = AllAt (λ place h. IsToldBy s h (r.ended (shard_name 
 -- no disk's count of reads is full
 abbrev pub HaveReadsLeft : Runs → (ℕ → NodeId) → List Device → Type 0
 HaveReadsLeft r name devices = (place : ℕ) (d : Device) → slice_get devices place ≡ Some d → reads_at (r.begun (name place)) + d.reads < 2 ^ 64 - 1
+
+-- no disk's count of reads is full, as it tells now
+abbrev pub CanBeRead : {N J D : Type 0} → Sight N J D → List (Host N J D) → Type 0
+CanBeRead s hosts = AllAt (λ _ h. IfSome (told_by s h) (λ t. t.reads.made < 2 ^ 64 - 1)) hosts

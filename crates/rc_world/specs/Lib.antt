@@ -4,6 +4,7 @@ pub mod Votes
 pub mod Places
 pub mod Mail
 pub mod Clients
+pub mod Weights
 pub mod OneClient
 pub mod Hosts
 pub mod Turns

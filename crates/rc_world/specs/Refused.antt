@@ -1,5 +1,6 @@
 -- Why a node did not act in an event.
-use Rattle.std.specs.Prelude.{◌≡◌, Bool, [], None, Some}
+use Rattle.std.specs.Prelude.{◌≡◌, Bool, List, [], None, Some}
+use Rattle.rc_runs.specs.Devices.{Device}
 use Rattle.rc_report.specs.declared.fault.Which.TheVariants.{Ballots}
 use Rattle.rc_runs.specs.declared.event.Event.{Event}
 use Rattle.rc_runs.specs.World.{Stops, course_deed, sends_of}
@@ -26,3 +27,16 @@ ActRefused z e Before Farm = FarmFailed z e
 ActRefused z e Before (Limit which) = (which ≡ Ballots) × (worn_out (course_deed z.world e (disk_change z e).course) ≡ Some Ballots)
 ActRefused z e Before (Log node fault) = ⊥
 ActRefused z e Before (Naming name) = ⊥
+
+-- for want of memory a node that was to start is down still; its disk may have been synced and read
+pub record StillDown (Hosts : List Device → Type 0) : Type 0 where
+  pub devices : List Device
+  pub hosts : Hosts devices
+
+-- the fault of a node that is to start in the event, where its kind's nodes are on these disks afterwards
+abbrev pub StartRefused : Session → Event → (List Device → Type 0) → WorldFault → Type 0
+StartRefused z e Hosts NoMemory = StillDown Hosts
+StartRefused z e Hosts Farm = FarmFailed z e
+StartRefused z e Hosts (Limit which) = ⊥
+StartRefused z e Hosts (Log node fault) = ⊥
+StartRefused z e Hosts (Naming name) = ⊥

@@ -15,6 +15,8 @@ use Rattle.rc_host.specs.declared.host.Course.{Course}
 use Rattle.rc_host.specs.declared.host.Course.TheVariants.{Goes, Stops}
 use Rattle.rc_host.specs.declared.host.HostFault.{HostFault}
 use Rattle.rc_host.specs.declared.host.HostFault.TheVariants as faults
+use Rattle.rc_host.specs.declared.restarts.RestartFault.{RestartFault}
+use Rattle.rc_host.specs.declared.restarts.RestartFault.TheVariants as restart_faults
 use Rattle.rc_world.specs.declared.fault.WorldFault.{WorldFault}
 use Rattle.rc_world.specs.declared.fault.WorldFault.TheVariants.{NoMemory, Farm, Log, Limit, Naming}
 
@@ -46,3 +48,9 @@ TurnRefused s gives run Farm new x d act = StopsOn d act × (device_after d act 
 TurnRefused s gives run (Limit which) new x d act = (act.spent ≡ true) × (which ≡ Ballots)
 TurnRefused s gives run (Log node fault) new x d act = ⊥
 TurnRefused s gives run (Naming name) new x d act = ⊥
+
+-- what a fault of a start is to its world; a log that was written in the run is never refused
+abbrev pub start_fault : RestartFault → WorldFault
+start_fault restart_faults.NoMemory = NoMemory
+start_fault restart_faults.DiskFailed = Farm
+start_fault (restart_faults.Refused fault) = Farm

@@ -8,7 +8,7 @@ ghost use Rattle.rc_runs.specs.declared.event.Event.{Event as AnyEvent};
 ghost use Rattle.rc_runs.specs.Refusals.{wrong, begins};
 ghost use Rattle.rc_runs.specs.World.{deed, client_does, actor};
 ghost use Rattle.rc_world.specs.Words.{parts_of, views};
-ghost use Rattle.rc_world.specs.Clients.{AreOf, command};
+ghost use Rattle.rc_world.specs.Clients.{command};
 ghost use Rattle.rc_world.specs.Hosts.{Runs};
 ghost use Rattle.rc_world.specs.Steps.{IsDone, event_limit};
 ghost use Rattle.rc_world.specs.Worlds.{IsWorld, HasActed, KeepsCarried};
@@ -68,12 +68,10 @@ impl<F: Farm> World<F> {
         event: &Event,
         lines: &mut Lines,
     ) -> Result<Sending, WorldFault>
-        requires of { AreOf self.old.cluster self.old.clients.cores }
         requires lines { lines.old ≡ [] }
         ensures ok { (r : Runs) (z : Session) (cause : ClientCause) → IsWorld (views ⟦<Log<F::D> as Journal>⟧.state F.D.told F.D.content F.D.power) r (parts_of self.old) z → command event.now ≡ Some (tx, cause)
             → IfOk result (λ s. HasActed (views ⟦<Log<F::D> as Journal>⟧.state F.D.told F.D.content F.D.power) r z event.now (parts_of self.new) s.from s.sends lines.new) }
         ensures carried { KeepsCarried (parts_of self.old) (parts_of self.new) }
-        ensures of { AreOf self.new.cluster self.new.clients.cores }
     {
         let mut out = Outbox::new(self.alloc, Party::Client(tx));
         match self.clients.obey(&self.cluster, event, &mut out, lines) {
@@ -99,13 +97,11 @@ impl<F: Farm> World<F> {
         msg: &Msg,
         lines: &mut Lines,
     ) -> Result<Sending, WorldFault>
-        requires of { AreOf self.old.cluster self.old.clients.cores }
         requires lines { lines.old ≡ [] }
         ensures ok { (r : Runs) (z : Session) (e : AnyEvent) → IsWorld (views ⟦<Log<F::D> as Journal>⟧.state F.D.told F.D.content F.D.power) r (parts_of self.old) z
             → IsDone z e → deed z.world.parties z.world.sent e ≡ client_does z.world.parties tx (Hears msg.now) → actor z.world.sent e ≡ ClientParty tx → wrong z.world e ≡ None → begins e ≡ false
             → IfOk result (λ s. HasActed (views ⟦<Log<F::D> as Journal>⟧.state F.D.told F.D.content F.D.power) r z e (parts_of self.new) s.from s.sends lines.new) }
         ensures carried { KeepsCarried (parts_of self.old) (parts_of self.new) }
-        ensures of { AreOf self.new.cluster self.new.clients.cores }
     {
         let mut out = Outbox::new(self.alloc, Party::Client(tx));
         match self.clients.hear(&self.cluster, tx, msg, &mut out, lines) {

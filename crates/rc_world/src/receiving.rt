@@ -7,7 +7,6 @@ ghost use Rattle.rc_runs.specs.Refusals.{wrong, begins};
 ghost use Rattle.rc_runs.specs.Session.{Session};
 ghost use Rattle.rc_runs.specs.World.{deed, received, actor};
 ghost use Rattle.rc_world.specs.Words.{parts_of, views};
-ghost use Rattle.rc_world.specs.Clients.{AreOf};
 ghost use Rattle.rc_world.specs.Places.{coord_name, shard_name};
 ghost use Rattle.rc_world.specs.Hosts.{Runs, HaveReadsLeft, CoordsAreTold, ShardsAreTold};
 ghost use Rattle.rc_world.specs.Steps.{IsDone};
@@ -26,7 +25,6 @@ use rc_report::{Lines, Wrong};
 impl<F: Farm> World<F> {
     /// The party to which a message is sent does what it does at it.
     fn receive(&mut self, envelope: &Envelope, lines: &mut Lines) -> Result<Sending, WorldFault>
-        requires of { AreOf self.old.cluster self.old.clients.cores }
         requires lines { lines.old ≡ [] }
         ensures ok { (r : Runs) (z : Session) (e : AnyEvent) → IsWorld (views ⟦<Log<F::D> as Journal>⟧.state F.D.told F.D.content F.D.power) r (parts_of self.old) z
             → HasEnvelope envelope.now → IsDone z e → deed z.world.parties z.world.sent e ≡ received z.world.parties envelope.now envelope.now.to → actor z.world.sent e ≡ envelope.now.to → wrong z.world e ≡ None → begins e ≡ false
@@ -46,7 +44,6 @@ impl<F: Farm> World<F> {
 
     /// A message is delivered, for the first time or again.
     pub(crate) fn deliver(&mut self, number: u32, lines: &mut Lines) -> Result<Sending, WorldFault>
-        requires of { AreOf self.old.cluster self.old.clients.cores }
         requires lines { lines.old ≡ [] }
         ensures ok { (r : Runs) (z : Session) → IsWorld (views ⟦<Log<F::D> as Journal>⟧.state F.D.told F.D.content F.D.power) r (parts_of self.old) z
             → HaveReadsLeft r coord_name z.coords → HaveReadsLeft r (shard_name r.cluster) z.shards

@@ -2,6 +2,7 @@
 ghost use Rattle.std.specs.Prelude.{IsTrue};
 ghost use Rattle.std.specs.List.{list_all};
 ghost use Rattle.rc_world.specs.Wells.{is_well};
+ghost use Rattle.rc_world.specs.Weights.{are_of};
 
 use crate::clients::Clients;
 use crate::coords::CoordHost;
@@ -33,4 +34,5 @@ pub struct World<F: Farm> {
     pub(crate) deliveries: u64,
     ghost coords_are_well: { IsTrue (list_all (is_well (λ n. n.stopped)) coords.items) },
     ghost shards_are_well: { IsTrue (list_all (is_well (λ n. n.stopped)) shards.items) },
+    ghost clients_are_of: { IsTrue (are_of cluster clients.cores) },
 }
