@@ -16,3 +16,4 @@ pub mod Limits
 pub mod Refused
 pub mod CoordActed
 pub mod Noted
+pub mod Asked

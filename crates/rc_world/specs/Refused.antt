@@ -33,10 +33,10 @@ pub record StillDown (Hosts : List Device → Type 0) : Type 0 where
   pub devices : List Device
   pub hosts : Hosts devices
 
--- the fault of a node that is to start in the event, where its kind's nodes are on these disks afterwards
+-- the fault of a node that is to start in the event: its disk failed as its log was to be opened, or, where its kind's nodes are on these disks afterwards
 abbrev pub StartRefused : Session → Event → (List Device → Type 0) → WorldFault → Type 0
 StartRefused z e Hosts NoMemory = StillDown Hosts
-StartRefused z e Hosts Farm = FarmFailed z e
+StartRefused z e Hosts Farm = with_change z (disk_change z e) ≡ None
 StartRefused z e Hosts (Limit which) = ⊥
 StartRefused z e Hosts (Log node fault) = ⊥
 StartRefused z e Hosts (Naming name) = ⊥

@@ -11,7 +11,7 @@ ghost use Rattle.rc_world.specs.Words.{parts_of, views};
 ghost use Rattle.rc_world.specs.Clients.{command};
 ghost use Rattle.rc_world.specs.Hosts.{Runs};
 ghost use Rattle.rc_world.specs.Steps.{IsDone, event_limit};
-ghost use Rattle.rc_world.specs.Worlds.{IsWorld, HasActed, KeepsCarried};
+ghost use Rattle.rc_world.specs.Worlds.{IsWorld, HasActed, KeepsCarried, AreTold, CanAllBeRead};
 
 use crate::WorldFault;
 use crate::clients::Refused;
@@ -46,6 +46,7 @@ impl<F: Farm> World<F> {
         ensures ok { (r : Runs) (z : Session) → IsWorld (views ⟦<Log<F::D> as Journal>⟧.state F.D.told F.D.content F.D.power) r (parts_of self.old) z
             → IfOk result (λ s. HasActed (views ⟦<Log<F::D> as Journal>⟧.state F.D.told F.D.content F.D.power) r z (Begin tx) (parts_of self.new) s.from s.sends []) }
         ensures carried { KeepsCarried (parts_of self.old) (parts_of self.new) }
+        ensures grew { (r : Runs) → CanAllBeRead (views ⟦<Log<F::D> as Journal>⟧.state F.D.told F.D.content F.D.power) (parts_of self.old) → AreTold (views ⟦<Log<F::D> as Journal>⟧.state F.D.told F.D.content F.D.power) r (parts_of self.new) → AreTold (views ⟦<Log<F::D> as Journal>⟧.state F.D.told F.D.content F.D.power) r (parts_of self.old) }
     {
         if self.clients.is_begun(tx) {
             return Err(WorldFault::Naming(Wrong::BegunTwice(tx)));
@@ -72,6 +73,7 @@ impl<F: Farm> World<F> {
         ensures ok { (r : Runs) (z : Session) (cause : ClientCause) → IsWorld (views ⟦<Log<F::D> as Journal>⟧.state F.D.told F.D.content F.D.power) r (parts_of self.old) z → command event.now ≡ Some (tx, cause)
             → IfOk result (λ s. HasActed (views ⟦<Log<F::D> as Journal>⟧.state F.D.told F.D.content F.D.power) r z event.now (parts_of self.new) s.from s.sends lines.new) }
         ensures carried { KeepsCarried (parts_of self.old) (parts_of self.new) }
+        ensures grew { (r : Runs) → CanAllBeRead (views ⟦<Log<F::D> as Journal>⟧.state F.D.told F.D.content F.D.power) (parts_of self.old) → AreTold (views ⟦<Log<F::D> as Journal>⟧.state F.D.told F.D.content F.D.power) r (parts_of self.new) → AreTold (views ⟦<Log<F::D> as Journal>⟧.state F.D.told F.D.content F.D.power) r (parts_of self.old) }
     {
         let mut out = Outbox::new(self.alloc, Party::Client(tx));
         match self.clients.obey(&self.cluster, event, &mut out, lines) {
@@ -102,6 +104,7 @@ impl<F: Farm> World<F> {
             → IsDone z e → deed z.world.parties z.world.sent e ≡ client_does z.world.parties tx (Hears msg.now) → actor z.world.sent e ≡ ClientParty tx → wrong z.world e ≡ None → begins e ≡ false
             → IfOk result (λ s. HasActed (views ⟦<Log<F::D> as Journal>⟧.state F.D.told F.D.content F.D.power) r z e (parts_of self.new) s.from s.sends lines.new) }
         ensures carried { KeepsCarried (parts_of self.old) (parts_of self.new) }
+        ensures grew { (r : Runs) → CanAllBeRead (views ⟦<Log<F::D> as Journal>⟧.state F.D.told F.D.content F.D.power) (parts_of self.old) → AreTold (views ⟦<Log<F::D> as Journal>⟧.state F.D.told F.D.content F.D.power) r (parts_of self.new) → AreTold (views ⟦<Log<F::D> as Journal>⟧.state F.D.told F.D.content F.D.power) r (parts_of self.old) }
     {
         let mut out = Outbox::new(self.alloc, Party::Client(tx));
         match self.clients.hear(&self.cluster, tx, msg, &mut out, lines) {

@@ -16,6 +16,7 @@ mod sending;
 mod shards;
 mod standing;
 mod starting;
+mod stepping;
 mod stopping;
 mod turns;
 mod votes;

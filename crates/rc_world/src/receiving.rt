@@ -10,7 +10,7 @@ ghost use Rattle.rc_world.specs.Words.{parts_of, views};
 ghost use Rattle.rc_world.specs.Places.{coord_name, shard_name};
 ghost use Rattle.rc_world.specs.Hosts.{Runs, HaveReadsLeft, CoordsAreTold, ShardsAreTold};
 ghost use Rattle.rc_world.specs.Steps.{IsDone};
-ghost use Rattle.rc_world.specs.Worlds.{IsWorld, HasActed, KeepsCarried};
+ghost use Rattle.rc_world.specs.Worlds.{IsWorld, HasActed, KeepsCarried, AreTold, CanAllBeRead};
 
 use crate::WorldFault;
 use crate::mail::{message, wrong_delivery};
@@ -33,6 +33,7 @@ impl<F: Farm> World<F> {
             → ShardsAreTold (views ⟦<Log<F::D> as Journal>⟧.state F.D.told F.D.content F.D.power).shards r (parts_of self.new).shards
             → IfOk result (λ s. HasActed (views ⟦<Log<F::D> as Journal>⟧.state F.D.told F.D.content F.D.power) r z e (parts_of self.new) s.from s.sends lines.new) }
         ensures carried { KeepsCarried (parts_of self.old) (parts_of self.new) }
+        ensures grew { (r : Runs) → CanAllBeRead (views ⟦<Log<F::D> as Journal>⟧.state F.D.told F.D.content F.D.power) (parts_of self.old) → AreTold (views ⟦<Log<F::D> as Journal>⟧.state F.D.told F.D.content F.D.power) r (parts_of self.new) → AreTold (views ⟦<Log<F::D> as Journal>⟧.state F.D.told F.D.content F.D.power) r (parts_of self.old) }
     {
         match &envelope.to {
             Party::Client(tx) => self.hear(*tx, &envelope.msg, lines),
@@ -51,6 +52,7 @@ impl<F: Farm> World<F> {
             → ShardsAreTold (views ⟦<Log<F::D> as Journal>⟧.state F.D.told F.D.content F.D.power).shards r (parts_of self.new).shards
             → IfOk result (λ s. HasActed (views ⟦<Log<F::D> as Journal>⟧.state F.D.told F.D.content F.D.power) r z (Deliver number) (parts_of self.new) s.from s.sends lines.new) }
         ensures carried { KeepsCarried (parts_of self.old) (parts_of self.new) }
+        ensures grew { (r : Runs) → CanAllBeRead (views ⟦<Log<F::D> as Journal>⟧.state F.D.told F.D.content F.D.power) (parts_of self.old) → AreTold (views ⟦<Log<F::D> as Journal>⟧.state F.D.told F.D.content F.D.power) r (parts_of self.new) → AreTold (views ⟦<Log<F::D> as Journal>⟧.state F.D.told F.D.content F.D.power) r (parts_of self.old) }
     {
         if let Some(name) = wrong_delivery(&self.net, number) {
             return Err(WorldFault::Naming(name));
