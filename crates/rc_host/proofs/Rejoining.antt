@@ -23,7 +23,6 @@ use Rattle.rc_host.specs.Hosts.{Sight, Run, IsHost, IsUp, HasLog, IsToldBy, is_u
 use Rattle.rc_host.specs.Restarts.{asking, HasAsked, HasNotStarted, HasNotRejoined}
 use Rattle.rc_host.specs.declared.restarts.RestartFault.{RestartFault}
 use Rattle.rc_host.specs.declared.restarts.RestartFault.TheVariants as faults
-use Rattle.rc_host.proofs.Acting.{no_record}
 use Rattle.rc_host.proofs.Turning.{act_is}
 
 -- a node that asks logs nothing, keeps its durable state and needs no ballot
@@ -44,11 +43,11 @@ asks_quietly c (Coord d) (OfShard s) v = record { logs = refl; durable = refl; l
 no_logs : (old new : State) (o : Option Record) → o ≡ None → Logs old new o → new ≡ old
 no_logs old new o none logs = subst (Logs old new) none logs
 
-pub quiet_journal : {may_leave : List ℕ → Type 0} (fault : NodeFault) (old new : State) (act : AnyAct) → act.logs ≡ None → act.spent ≡ false → Stays fault may_leave old new act → (new ≡ old) × (fault ≡ NoMemory)
-quiet_journal NoMemory old new act none left stays = (stays, refl)
-quiet_journal {may_leave} Failed old new act none left stays = absurd (subst (λ (o : Option Record). FailsAt may_leave old new o) none stays)
-quiet_journal Full old new act none left stays = absurd (subst (λ (o : Option Record). IsFullAt old o) none stays.reason)
-quiet_journal BallotsSpent old new act none left stays = absurd (let e : true ≡ false = sym stays.reason ∙ left in cc)
+pub quiet_journal : (may_leave : List ℕ → Type 0) (fault : NodeFault) (old new : State) (act : AnyAct) → act.logs ≡ None → act.spent ≡ false → Stays fault may_leave old new act → (new ≡ old) × (fault ≡ NoMemory)
+quiet_journal may_leave NoMemory old new act none left stays = (stays, refl)
+quiet_journal may_leave Failed old new act none left stays = absurd (subst (λ (o : Option Record). FailsAt may_leave old new o) none stays)
+quiet_journal may_leave Full old new act none left stays = absurd (subst (λ (o : Option Record). IsFullAt old o) none stays.reason)
+quiet_journal may_leave BallotsSpent old new act none left stays = absurd (let e : true ≡ false = sym stays.reason ∙ left in cc)
 
 module _ {N J D : Type 0} (s : Sight N J D) where
   -- what the node does that asks
@@ -64,7 +63,7 @@ module _ {N J D : Type 0} (s : Sight N J D) where
   pub refused_journal : (may_leave : J → List ℕ → Type 0) (fault : NodeFault) (node new : N) (before after : Outbox) → HasRefused s.state may_leave fault (s.seen node) (s.seen new) before after (its_act node)
       → (s.state (s.seen new).journal ≡ s.state (s.seen node).journal) × (fault ≡ NoMemory)
   refused_journal may_leave fault node new before after refused =
-      quiet_journal {may_leave = may_leave (s.seen new).journal} fault (s.state (s.seen node).journal) (s.state (s.seen new).journal) (its_act node) (its_quiet node).logs (its_quiet node).left refused.journal
+      quiet_journal (may_leave (s.seen new).journal) fault (s.state (s.seen node).journal) (s.state (s.seen new).journal) (its_act node) (its_quiet node).logs (its_quiet node).left refused.journal
 
   pub refused_goes_on : (may_leave : J → List ℕ → Type 0) (fault : NodeFault) (node new : N) (before after : Outbox) → HasRefused s.state may_leave fault (s.seen node) (s.seen new) before after (its_act node) → (s.seen new).stopped ≡ false
   refused_goes_on may_leave fault node new before after refused =

@@ -32,3 +32,4 @@ pub mod Standings
 pub mod CoordStops
 pub mod ShardStops
 pub mod Weighing
+pub mod Powered
