@@ -1,6 +1,6 @@
 -- A coordinator among all stops between two messages, has a cut armed, or starts again: what its event makes of the session.
 use Rattle.std.proofs.Common.{◌≡◌, ℕ, ◌<◌, true, false, List, [], ◌∷◌, length, Option, None, Some, refl, sym, ◌∙◌, ap, subst, ⊎_elim}
-use Rattle.std.specs.Prelude.{slice_get, slice_set, if◌then◌else◌}
+use Rattle.std.specs.Prelude.{slice_get, slice_set}
 use Rattle.rc_ids.specs.Tables.{maybe}
 use Rattle.rc_ids.specs.Cluster.{Layout, is_dc}
 use Rattle.rc_ids.specs.declared.names.NodeId.TheVariants.{Coord}
@@ -22,21 +22,26 @@ use Rattle.rc_runs.specs.Devices.{Device, powered, armed, opened_once}
 use Rattle.rc_runs.specs.Session.{Session, change_on, with_change}
 use Rattle.rc_host.specs.AnyNode.{AnyAct, NodeDurable, OfCoord, node_act, new_volatile, coord_back}
 use Rattle.rc_host.specs.Standing.{Standing, coord_standing, stopped, after_act}
-use Rattle.rc_host.specs.Hosts.{Sight, Run, IsHost, is_up as is_host_up}
+use Rattle.rc_host.specs.Hosts.{Sight, Run, IsHost, IsToldBy, is_up as is_host_up}
 use Rattle.rc_host.specs.declared.host.Host.{Host}
 use Rattle.rc_host.specs.declared.restarts.RestartFault.{RestartFault}
 use Rattle.rc_host.specs.declared.restarts.RestartFault.TheVariants.{NoMemory, DiskFailed, Refused}
 use Rattle.rc_host.specs.Restarts.{HasRejoined, HasNotRejoined}
+use Rattle.rc_world.specs.declared.fault.WorldFault.{WorldFault}
 use Rattle.rc_world.specs.Places.{coord_name, AreAt}
-use Rattle.rc_world.specs.Hosts.{Runs, run_at, IsCoord}
+use Rattle.rc_world.specs.Hosts.{Runs, run_at, IsCoord, CoordsAreTold}
 use Rattle.rc_world.specs.Steps.{EventActed}
 use Rattle.rc_world.specs.Turns.{start_fault}
 use Rattle.rc_world.specs.Refused.{StillDown, StartRefused}
 use Rattle.rc_world.specs.CoordActed.{CoordsActed}
-use Rattle.rc_world.proofs.Lists.{set_same, stands, one_changes}
+use Rattle.rc_world.proofs.Lists.{set_same, set_at, stands, one_changes}
 use Rattle.rc_world.proofs.CoordActs as acts
 use Rattle.rc_world.proofs.CoordActs.{coord_here}
 use Rattle.rc_world.proofs.ShardTurns.{up_is}
+
+-- a fault in other words
+pub refused_as : (z : Session) (e : Event) (Hosts : List Device → Type 0) (fault as_fault : WorldFault) → as_fault ≡ fault → StartRefused z e Hosts fault → StartRefused z e Hosts as_fault
+refused_as z e Hosts fault as_fault same why = subst (StartRefused z e Hosts) (sym same) why
 
 module _ {C J D : Type 0} (s : Sight C J D) (r : Runs) (hosts : List (Host C J D)) (z : Session) (are : AreAt (IsCoord s r) hosts z.world.parties.coords z.coords) (layout : z.world.parties.layout ≡ r.cluster) (d : ℕ)
     (there : is_dc r.cluster d ≡ true) (within : coord_index d < length hosts) (h new : Host C J D) (at_host : slice_get hosts (coord_index d) ≡ Some h) where
@@ -52,10 +57,10 @@ module _ {C J D : Type 0} (s : Sight C J D) (r : Runs) (hosts : List (Host C J D
   abbrev gives : List (List ℕ) → NodeDurable → Type 0
   gives = coord_back (coord_name place) r.cluster
 
-  node_there : (x : CoordNode) × (slice_get p.coords place ≡ Some x)
+  pub node_there : (x : CoordNode) × (slice_get p.coords place ≡ Some x)
   node_there = stands p.coords place (subst (λ (n : ℕ). place < n) (sym are.as_nodes) within)
 
-  device_there : (v : Device) × (slice_get z.coords place ≡ Some v)
+  pub device_there : (v : Device) × (slice_get z.coords place ≡ Some v)
   device_there = stands z.coords place (subst (λ (n : ℕ). place < n) (sym are.as_devices) within)
 
   abbrev pub x : CoordNode
@@ -75,6 +80,10 @@ module _ {C J D : Type 0} (s : Sight C J D) (r : Runs) (hosts : List (Host C J D
   up_here =
       sym (up_is s gives run h (coord_standing x) v host.host)
       ∙ sym (ap (λ (o : Option CoordNode). maybe o false (λ y. y.up)) (coord_here z d x v there_p node_there.1 device_there.1))
+
+  -- what its disk tells is told at the end still
+  pub told_here : (i : ℕ) → i ≡ place → CoordsAreTold s r (slice_set hosts i new) → IsToldBy s new (r.ended (coord_name place))
+  told_here i spot told = subst (λ (n : ℕ). CoordsAreTold s r (slice_set hosts n new)) spot told place new (set_at hosts place new within)
 
   -- it changes in an event, and its device with it
   pub changed : (e : Event) (y : CoordNode) (w : Device) (out : Outbox) (sends : Posts) (own : List Line) → EventActed z e (with_coord p d y None) (slice_set z.coords place w) z.shards sends own → y.log ≡ x.log

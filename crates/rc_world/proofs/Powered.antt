@@ -1,5 +1,5 @@
 -- A world after an event in which a node was stopped, armed or started, and nothing entered its log.
-use Rattle.std.proofs.Common.{◌≡◌, ℕ, Bool, true, false, List, [], ◌∷◌, length, Option, None, Some, IsTrue, IfSome, refl, sym, ◌∙◌, ap, subst, arith}
+use Rattle.std.proofs.Common.{◌≡◌, ℕ, Bool, true, false, List, [], ◌∷◌, length, Option, None, Some, IsTrue, IfSome, Result, Ok, Err, IfOk, refl, sym, ◌∙◌, ap, subst, arith}
 use Rattle.std.specs.Prelude.{slice_get, slice_set, if◌then◌else◌, ◌<◌, ◌-◌, ◌^◌}
 use Rattle.rc_ids.specs.Tables.{maybe}
 use Rattle.rc_ids.specs.Cluster.{Layout, is_dc}
@@ -9,14 +9,14 @@ use Rattle.rc_ids.specs.declared.names.Party.TheVariants.{Node}
 use Rattle.rc_ids.specs.declared.sends.Letter.{Letter}
 use Rattle.rc_msg.specs.Outboxes.{Outbox}
 use Rattle.rc_report.specs.declared.line.Line.{Line}
-use Rattle.rc_report.specs.declared.line.Line.TheVariants.{Up as IsUpNow}
+use Rattle.rc_report.specs.declared.line.Line.TheVariants.{Stopped, Up as IsUpNow}
 use Rattle.rc_report.specs.declared.fault.Wrong.{Wrong}
-use Rattle.rc_report.specs.declared.fault.Wrong.TheVariants.{Down as IsDownNow}
+use Rattle.rc_report.specs.declared.fault.Wrong.TheVariants.{Down as IsDownNow, Up as IsUpName}
 use Rattle.rc_protocol.specs.Acts.{Catches}
 use Rattle.rc_protocol.specs.Nodes.{CoordNode, ShardNode, coord_index, shard_index, coord_started, shard_started}
 use Rattle.rc_runs.specs.declared.event.Event.{Event}
-use Rattle.rc_runs.specs.declared.event.Event.TheVariants.{Restart}
-use Rattle.rc_runs.specs.World.{Parties, Deed, Idle, is_up, is_shard_of, restarts, by_coord, by_shard, parties_after, sends_of, lines_of, actor}
+use Rattle.rc_runs.specs.declared.event.Event.TheVariants.{Crash, CrashAt, Restart}
+use Rattle.rc_runs.specs.World.{World, Parties, Deed, Idle, is_up, is_shard_of, restarts, by_coord, by_shard, parties_after, sends_of, lines_of, actor}
 use Rattle.rc_runs.specs.Refusals.{wrong, begins, wants_up, worn_out}
 use Rattle.rc_runs.specs.Devices.{Device, opened_once}
 use Rattle.rc_runs.specs.Session.{Session, no_device, device_in, device_of, with_device, change_on, with_change}
@@ -26,13 +26,15 @@ use Rattle.rc_host.specs.Hosts.{Sight, CanRead}
 use Rattle.rc_host.specs.Disks.{told_by}
 use Rattle.rc_host.specs.declared.host.Host.{Host}
 use Rattle.rc_host.specs.declared.host.Host.TheVariants as hosts
+use Rattle.rc_world.specs.declared.world.Sending.{Sending}
+use Rattle.rc_world.specs.declared.fault.WorldFault.{WorldFault}
 use Rattle.rc_world.specs.Noted.{Notes}
-use Rattle.rc_world.specs.Hosts.{Views, Runs, CanBeRead}
+use Rattle.rc_world.specs.Hosts.{Views, Runs, CanBeRead, CoordsAreTold, ShardsAreTold}
 use Rattle.rc_world.specs.Places.{AllAt}
 use Rattle.rc_world.specs.CoordActed.{CoordsActed}
 use Rattle.rc_world.specs.Steps.{EventActed, event_limit}
 use Rattle.rc_world.specs.Mail.{IsMail}
-use Rattle.rc_world.specs.Worlds.{Parts, IsWorld, HasActed, IsCarried, KeepsCarried}
+use Rattle.rc_world.specs.Worlds.{Parts, IsWorld, HasActed, IsCarried, KeepsCarried, KeepsParties, AreTold, CanAllBeRead}
 use Rattle.rc_world.proofs.Ordering.{none_noted}
 use Rattle.rc_world.proofs.Noded.{coords_did}
 use Rattle.rc_world.proofs.Told.{early}
@@ -59,6 +61,10 @@ shard_known p d sh up = by_test (is_shard_of p.layout d sh) up
     by_test : (b : Bool) → maybe (let o : Option ShardNode = if b then slice_get p.shards (shard_index p.layout d sh) else None in o) false (λ x. x.up) ≡ true → b ≡ true
     by_test true at = refl
     by_test false at = absurd (cc)
+
+-- a node that is not up may be started
+pub not_up_named : (w : World) (node : NodeId) → is_up w.parties node ≡ false → wrong w (Restart node) ≡ None
+not_up_named w node down = ap (λ (b : Bool). let o : Option Wrong = if b then Some (IsUpName node) else None in o) down
 
 -- A NODE THAT IS NONE OF THE WORLD does nothing as it is started
 module _ (z : Session) where
@@ -118,6 +124,25 @@ module _ {C S J D : Type 0} (v : Views C S J D) (r : Runs) (z : Session) (old : 
     posted = none;
   }
 
+-- IN OTHER WORDS
+module _ {C S J D : Type 0} (v : Views C S J D) (r : Runs) (z : Session) (new : Parts (Host C J D) (Host S J D)) (node as_node : NodeId) (same : as_node ≡ node) where
+  pub stopped_as : HasActed v r z (Crash node) new (Node node) [] (Stopped node ∷ []) → HasActed v r z (Crash as_node) new (Node as_node) [] (Stopped as_node ∷ [])
+  stopped_as did = subst (λ (n : NodeId). HasActed v r z (Crash n) new (Node n) [] (Stopped n ∷ [])) (sym same) did
+
+  pub armed_as : (k pick : ℕ) → HasActed v r z (CrashAt node k pick) new (Node node) [] [] → HasActed v r z (CrashAt as_node k pick) new (Node as_node) [] []
+  armed_as k pick did = subst (λ (n : NodeId). HasActed v r z (CrashAt n k pick) new (Node n) [] []) (sym same) did
+
+pub restarted_as : {C S J D : Type 0} (v : Views C S J D) (r : Runs) (z : Session) (new : Parts (Host C J D) (Host S J D)) (node as_node : NodeId) → as_node ≡ node → (result : Result Sending WorldFault)
+    → IfOk result (λ s. HasActed v r z (Restart node) new s.from s.sends (IsUpNow node ∷ [])) → IfOk result (λ s. HasActed v r z (Restart as_node) new s.from s.sends (IsUpNow as_node ∷ []))
+restarted_as v r z new node as_node same (Ok s) did = subst (λ (n : NodeId). HasActed v r z (Restart n) new s.from s.sends (IsUpNow n ∷ [])) (sym same) did
+restarted_as v r z new node as_node same (Err fault) did = tt
+
+pub happened_as : {C S J D : Type 0} (v : Views C S J D) (r : Runs) (z : Session) (new : Parts (Host C J D) (Host S J D)) (e as_e : Event) (own as_own : List Line) → as_e ≡ e → as_own ≡ own → (result : Result Sending WorldFault)
+    → IfOk result (λ s. HasActed v r z e new s.from s.sends own) → IfOk result (λ s. HasActed v r z as_e new s.from s.sends as_own)
+happened_as v r z new e as_e own as_own same_event same_own (Ok s) did =
+    subst (λ (k : Event). HasActed v r z k new s.from s.sends as_own) (sym same_event) (subst (λ (ls : List Line). HasActed v r z e new s.from s.sends ls) (sym same_own) did)
+happened_as v r z new e as_e own as_own same_event same_own (Err fault) did = tt
+
 -- what no party changes
 pub carried_along : {C S : Type 0} (old new : Parts C S) (z : Session) → KeepsCarried old new → IsCarried old z.world → IsCarried new z.world
 carried_along old new z keeps is = record {
@@ -129,11 +154,29 @@ carried_along old new z keeps is = record {
 }
 
 -- READS
-pub can_read : {N J D : Type 0} (s : Sight N J D) (h : Host N J D) → IfSome (told_by s h) (λ t. t.reads.made < 2 ^ 64 - 1) → CanRead s h
+can_read : {N J D : Type 0} (s : Sight N J D) (h : Host N J D) → IfSome (told_by s h) (λ t. t.reads.made < 2 ^ 64 - 1) → CanRead s h
 can_read s (hosts.Up node) can = can
 can_read s (hosts.Opened journal blobs) can = tt
 can_read s (hosts.Down disk) can = tt
 can_read s hosts.Lent can = tt
 
-pub all_can_read : {N J D : Type 0} (s : Sight N J D) (hs : List (Host N J D)) → CanBeRead s hs → AllAt (λ _ h. CanRead s h) hs
-all_can_read s hs can = λ place h at. can_read s h (can place h at)
+module _ {C S J D : Type 0} (v : Views C S J D) (w : Parts (Host C J D) (Host S J D)) (can : CanAllBeRead v w) where
+  pub coords_can_read : AllAt (λ _ h. CanRead v.coords h) w.coords
+  coords_can_read = λ place h at. can_read v.coords h (can.coords place h at)
+
+  pub shards_can_read : AllAt (λ _ h. CanRead v.shards h) w.shards
+  shards_can_read = λ place h at. can_read v.shards h (can.shards place h at)
+
+-- AMONG THE PARTIES that do not change
+module _ {C S J D : Type 0} (v : Views C S J D) (old new : Parts (Host C J D) (Host S J D)) (keeps : KeepsParties old new) where
+  pub told_back : (r : Runs) → AreTold v r new → AreTold v r old
+  told_back r told = record {
+    coords = subst (λ (hs : List (Host C J D)). CoordsAreTold v.coords r hs) keeps.coords told.coords;
+    shards = subst (λ (hs : List (Host S J D)). ShardsAreTold v.shards r hs) keeps.shards told.shards;
+  }
+
+  pub can_along : CanAllBeRead v old → CanAllBeRead v new
+  can_along can = record {
+    coords = subst (λ (hs : List (Host C J D)). CanBeRead v.coords hs) (sym keeps.coords) can.coords;
+    shards = subst (λ (hs : List (Host S J D)). CanBeRead v.shards hs) (sym keeps.shards) can.shards;
+  }

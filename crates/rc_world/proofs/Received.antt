@@ -12,7 +12,7 @@ use Rattle.rc_protocol.specs.Acts.{Came, Catches}
 use Rattle.rc_report.specs.declared.fault.Wrong.{Wrong}
 use Rattle.rc_report.specs.declared.fault.Wrong.TheVariants.{NotSent, NotBegun}
 use Rattle.rc_runs.specs.declared.event.Event.TheVariants.{Deliver, Catch, Take}
-use Rattle.rc_runs.specs.World.{World, Parties, Deed, Idle, received, catches, deed, actor, message}
+use Rattle.rc_runs.specs.World.{World, Parties, Idle, received, catches, deed, actor, message}
 use Rattle.rc_runs.specs.Refusals.{wrong, wants_up, is_begun}
 use Rattle.rc_runs.specs.Session.{Session}
 use Rattle.rc_world.specs.Steps.{node_does, IsDone}

@@ -1,6 +1,6 @@
 -- A shard server among all stops between two messages, has a cut armed, or starts again: what its event makes of the session.
 use Rattle.std.proofs.Common.{◌≡◌, ℕ, ◌<◌, true, false, List, [], ◌∷◌, length, Option, None, Some, refl, sym, ◌∙◌, ap, subst, ⊎_elim}
-use Rattle.std.specs.Prelude.{slice_get, slice_set, if◌then◌else◌}
+use Rattle.std.specs.Prelude.{slice_get, slice_set}
 use Rattle.rc_ids.specs.Tables.{maybe}
 use Rattle.rc_ids.specs.Cluster.{Layout}
 use Rattle.rc_ids.specs.declared.names.NodeId.TheVariants.{Shard as ShardServer}
@@ -22,18 +22,18 @@ use Rattle.rc_runs.specs.Devices.{Device, powered, armed, opened_once}
 use Rattle.rc_runs.specs.Session.{Session, change_on, with_change}
 use Rattle.rc_host.specs.AnyNode.{AnyAct, NodeDurable, OfShard, node_act, new_volatile, shard_back}
 use Rattle.rc_host.specs.Standing.{Standing, shard_standing, stopped, after_act}
-use Rattle.rc_host.specs.Hosts.{Sight, Run, IsHost, is_up as is_host_up}
+use Rattle.rc_host.specs.Hosts.{Sight, Run, IsHost, IsToldBy, is_up as is_host_up}
 use Rattle.rc_host.specs.declared.host.Host.{Host}
 use Rattle.rc_host.specs.declared.restarts.RestartFault.{RestartFault}
 use Rattle.rc_host.specs.declared.restarts.RestartFault.TheVariants.{NoMemory, DiskFailed, Refused}
 use Rattle.rc_host.specs.Restarts.{HasRejoined, HasNotRejoined}
 use Rattle.rc_world.specs.Places.{shard_name, AreAt}
-use Rattle.rc_world.specs.Hosts.{Runs, run_at, IsShard}
+use Rattle.rc_world.specs.Hosts.{Runs, run_at, IsShard, ShardsAreTold}
 use Rattle.rc_world.specs.Steps.{EventActed}
 use Rattle.rc_world.specs.Turns.{start_fault}
 use Rattle.rc_world.specs.Refused.{StillDown, StartRefused}
 use Rattle.rc_world.specs.Acted.{ShardsActed, with_shards}
-use Rattle.rc_world.proofs.Lists.{set_same, stands, one_changes}
+use Rattle.rc_world.proofs.Lists.{set_same, set_at, stands, one_changes}
 use Rattle.rc_world.proofs.ShardActs as acts
 use Rattle.rc_world.proofs.ShardActs.{shard_here}
 use Rattle.rc_world.proofs.ShardTurns.{up_is}
@@ -52,10 +52,10 @@ module _ {S J D : Type 0} (s : Sight S J D) (r : Runs) (hosts : List (Host S J D
   abbrev gives : List (List ℕ) → NodeDurable → Type 0
   gives = shard_back (shard_name r.cluster place) r.cluster
 
-  node_there : (x : ShardNode) × (slice_get p.shards place ≡ Some x)
+  pub node_there : (x : ShardNode) × (slice_get p.shards place ≡ Some x)
   node_there = stands p.shards place (subst (λ (n : ℕ). place < n) (sym are.as_nodes) within)
 
-  device_there : (v : Device) × (slice_get z.shards place ≡ Some v)
+  pub device_there : (v : Device) × (slice_get z.shards place ≡ Some v)
   device_there = stands z.shards place (subst (λ (n : ℕ). place < n) (sym are.as_devices) within)
 
   abbrev pub x : ShardNode
@@ -84,6 +84,10 @@ module _ {S J D : Type 0} (s : Sight S J D) (r : Runs) (hosts : List (Host S J D
   up_here =
       sym (up_is s gives run h (shard_standing x) v host.host)
       ∙ sym (ap (λ (o : Option ShardNode). maybe o false (λ y. y.up)) (shard_here z d sh x v there_p node_p device_p))
+
+  -- what its disk tells is told at the end still
+  pub told_here : (i : ℕ) → i ≡ place → ShardsAreTold s r (slice_set hosts i new) → IsToldBy s new (r.ended (shard_name r.cluster place))
+  told_here i spot told = subst (λ (n : ℕ). ShardsAreTold s r (slice_set hosts n new)) spot told place new (set_at hosts place new within)
 
   -- it changes in an event, and its device with it
   pub changed : (e : Event) (y : ShardNode) (w : Device) (out : Outbox) (sends : Posts) (own : List Line)

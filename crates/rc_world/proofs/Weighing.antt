@@ -5,7 +5,7 @@ use Rattle.std.specs.Cmp.Lexicographic.{pointwise, same_text}
 use Rattle.std.proofs.lemmas.Cmp.{nat_list_eq_equiv}
 use Rattle.rc_ids.specs.Tables.{Table, maybe}
 use Rattle.rc_ids.specs.Cluster.{Layout}
-use Rattle.rc_client.specs.Acts.{Core, IsOf}
+use Rattle.rc_client.specs.Acts.{Core}
 use Rattle.rc_world.specs.Clients.{AreOf}
 use Rattle.rc_world.specs.Weights.{is_of, are_of}
 use Rattle.rc_world.proofs.Wellness.{both, all}

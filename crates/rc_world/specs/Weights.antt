@@ -1,5 +1,5 @@
 -- The weights by which clients count their votes.
-use Rattle.std.specs.Prelude.{ℕ, Bool, true, List, nat_eq}
+use Rattle.std.specs.Prelude.{ℕ, Bool, true, nat_eq}
 use Rattle.std.specs.List.{list_all}
 use Rattle.std.specs.Cmp.Lexicographic.{pointwise}
 use Rattle.rc_ids.specs.Tables.{Table, maybe}

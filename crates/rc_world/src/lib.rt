@@ -4,6 +4,7 @@
 mod clients;
 mod commands;
 mod coords;
+mod events;
 mod fault;
 mod mail;
 mod nodes;
@@ -14,9 +15,9 @@ mod receiving;
 mod restarting;
 mod sending;
 mod shards;
+mod showing;
 mod standing;
 mod starting;
-mod stepping;
 mod stopping;
 mod turns;
 mod votes;

@@ -4,6 +4,7 @@ use Rattle.rc_ids.specs.declared.names.NodeId.TheVariants.{Coord as Coordinator}
 use Rattle.rc_protocol.specs.Nodes.{coord_index}
 use Rattle.rc_world.proofs.Noded.{coords_did}
 use Rattle.rc_world.proofs.Lists.{is_of_world}
+use Rattle.rc_world.proofs.Powered.{coords_can_read}
 use Rattle.rc_world.proofs.world.World.coord_does.Goals as goal
 
 pub returns-then-place-len-clause-ok : goal.returns-then-place-len-clause-ok
@@ -15,3 +16,9 @@ returns-then-place-len-clause-ok g c = λ r z e is has done is_deed who named no
     coords_did _ r z _ is e named no_begin c.in_ok-event_limit.ensures.ok c.count_laws.ensures c.coord_acts.new.coords.items c.room.new.self c.note.new.order c.args.dc (Coordinator c.args.dc) c.in_ok-out.out c.in_ok-out.vote c.into_sends.result c.coord_acts.new.lines
     known c.in_ok-room.ensures.as_before c.note.ensures c.in_ok-out.ensures.count c.into_sends.ensures who
     (c.in_ok-out.ensures.ok r z e c.args.dc is.parties.layout is.carried.grammar refl known (ap (λ (n : ℕ). n - 1) (sym dc)) is.parties.hosts.of_coords done is_deed has left told)
+
+pub returns-in_err-out-clause-grew : goal.returns-in_err-out-clause-grew
+returns-in_err-out-clause-grew g c = λ r can told. record { coords = c.in_err-out.ensures.grew r (coords_can_read _ _ can) told.coords; shards = told.shards }
+
+pub returns-then-place-len-clause-grew : goal.returns-then-place-len-clause-grew
+returns-then-place-len-clause-grew g c = λ r can told. record { coords = c.in_ok-out.ensures.grew r (coords_can_read _ _ can) told.coords; shards = told.shards }
