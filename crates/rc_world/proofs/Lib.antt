@@ -32,3 +32,5 @@ pub mod Standings
 pub mod CoordStops
 pub mod ShardStops
 pub mod Weighing
+pub mod LogSteps
+pub mod LogOrders

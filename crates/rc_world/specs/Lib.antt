@@ -17,3 +17,4 @@ pub mod Refused
 pub mod CoordActed
 pub mod Noted
 pub mod Asked
+pub mod Logs
