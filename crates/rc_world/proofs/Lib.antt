@@ -34,3 +34,4 @@ pub mod ShardStops
 pub mod Weighing
 pub mod LogSteps
 pub mod LogOrders
+pub mod StartFacts

@@ -18,3 +18,4 @@ pub mod CoordActed
 pub mod Noted
 pub mod Asked
 pub mod Logs
+pub mod Beginnings

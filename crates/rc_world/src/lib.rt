@@ -1,6 +1,7 @@
 //! A world of nodes on their disks, clients and the network between them: one event on all.
 #![tactic(auto)]
 
+mod beginning;
 mod clients;
 mod commands;
 mod coords;
@@ -9,7 +10,7 @@ mod mail;
 mod named;
 mod nodes;
 mod noting;
-mod ordering;
+mod orders;
 mod places;
 mod powering;
 mod receiving;

@@ -1,6 +1,6 @@
 use Rattle.std.proofs.lemmas.Result.{on_ok_weaker}
 use Rattle.rc_world.proofs.LogSteps.{read_of, one_chosen}
-use Rattle.rc_world.proofs.ordering.choose_blob.Goals as goal
+use Rattle.rc_world.proofs.orders.choose_blob.Goals as goal
 
 pub returns-in-Some : goal.returns-in-Some
 returns-in-Some c =

@@ -2,7 +2,7 @@ use Rattle.std.proofs.Common.{◌≡◌, [], length, sym, ap, ◌∙◌}
 use Rattle.rc_order.specs.Orders.{Votes}
 use Rattle.rc_world.specs.Logs.{with_blobs}
 use Rattle.rc_world.proofs.LogOrders.{order_is}
-use Rattle.rc_world.proofs.ordering.order_of_logs.Goals as goal
+use Rattle.rc_world.proofs.orders.order_of_logs.Goals as goal
 
 pub returns : goal.returns
 returns c =

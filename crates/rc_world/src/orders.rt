@@ -28,12 +28,7 @@ fn count_blob(alloc: Global, order: &mut Order, dc: DcId, blob: &Blob) -> Result
 }
 
 /// Counts the votes of a datacentre that its log has. Where there is no memory, some of them may have been counted.
-fn count_log(
-    alloc: Global,
-    order: &mut Order,
-    dc: DcId,
-    records: &Blobs,
-) -> Result<(), NoMemory>
+fn count_log(alloc: Global, order: &mut Order, dc: DcId, records: &Blobs) -> Result<(), NoMemory>
     ensures votes { OnOk result (order.new.votes ≡ with_log order.old.votes dc (records_of records.now)) }
     ensures weights { order.new.weights ≡ order.old.weights }
     ensures earlier { order.new.earlier ≡ order.old.earlier }

@@ -1,6 +1,6 @@
 use Rattle.std.proofs.Common.{arith}
 use Rattle.rc_world.proofs.LogSteps.{logs_step}
-use Rattle.rc_world.proofs.ordering.choose_logs.Goals as goal
+use Rattle.rc_world.proofs.orders.choose_logs.Goals as goal
 
 pub loop-place-preserved : goal.loop-place-preserved
 loop-place-preserved c =
