@@ -18,7 +18,7 @@ use Rattle.rc_runs.specs.Stored.{records_of, without_head}
 use Rattle.rc_order.specs.Orders.{Votes, Order, with_record}
 use Rattle.rc_order.specs.Counts.{IsOrderOf}
 use Rattle.rc_order.specs.Logs as votes_of
-use Rattle.rc_world.specs.Logs.{records_in, choices_of}
+use Rattle.rc_world.specs.Logs.{records_in, choices_of, names_of}
 
 -- ONE MORE of a list
 -- what is left of a list begins with the item at the place
@@ -46,6 +46,11 @@ named_step named after whole log i b lt at is before =
     ∙ sym (log_append named (records_in b) (records_of (drop (i + 1) log)))
     ∙ sym (ap (λ (bs : List (List ℕ)). with_log named (records_of bs)) (left_at log i b lt at))
     ∙ before
+
+pub logs_named : (named after whole : List ℕ) (logs : List (List (List ℕ))) (i : ℕ) (log : List (List ℕ)) → i < length logs → log ≡ get_or logs i log
+    → after ≡ with_log named (records_of log) → names_of named (drop i logs) ≡ whole → names_of after (drop (i + 1) logs) ≡ whole
+logs_named named after whole logs i log lt at is before =
+    ap (λ (n : List ℕ). names_of n (drop (i + 1) logs)) is ∙ sym (ap (names_of named) (left_at logs i log lt at)) ∙ before
 
 -- VOTES
 votes_append : (votes : Votes) (d : ℕ) (rs qs : List Record) → votes_of.with_log votes d (rs ++ qs) ≡ votes_of.with_log (votes_of.with_log votes d rs) d qs

@@ -5,7 +5,7 @@ use Rattle.rc_ids.specs.Cluster.{Layout}
 use Rattle.rc_body.specs.declared.entry.Entry.{Entry}
 use Rattle.rc_record.specs.Reading.{decoded}
 use Rattle.rc_record.specs.declared.record.Record.{Record}
-use Rattle.rc_protocol.specs.Nodes.{CoordNode}
+use Rattle.rc_protocol.specs.Nodes.{CoordNode, with_log as with_names}
 use Rattle.rc_runs.specs.Starts.{with_choices}
 use Rattle.rc_runs.specs.Stored.{without_head, records_of}
 use Rattle.rc_order.specs.Orders.{Votes}
@@ -24,3 +24,8 @@ with_blobs votes d (log ∷ logs) = with_blobs (with_log votes d (records_of log
 abbrev pub choices_of : Layout → List CoordNode → List (ℕ × List Entry) → List (List (List ℕ)) → List (ℕ × List Entry)
 choices_of c coords chosen [] = chosen
 choices_of c coords chosen (log ∷ logs) = choices_of c coords (with_choices c coords chosen (records_of log)) logs
+
+-- the transactions that the logs name, joined to those named before
+abbrev pub names_of : List ℕ → List (List (List ℕ)) → List ℕ
+names_of named [] = named
+names_of named (log ∷ logs) = names_of (with_names named (records_of log)) logs

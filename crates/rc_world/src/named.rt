@@ -1,10 +1,11 @@
 // The transactions that logs name.
-ghost use Rattle.std.specs.Prelude.{◌≡◌, OnOk};
+ghost use Rattle.std.specs.Prelude.{◌≡◌, List, [], map, OnOk, IfOk};
 ghost use Rattle.std.specs.Ordering.{nat_cmp};
 ghost use Rattle.rc_ids.specs.Tables.{added};
-ghost use Rattle.rc_protocol.specs.Nodes.{with_txs, with_named, with_log};
+ghost use Rattle.rc_protocol.specs.Nodes.{CoordNode, ShardNode, with_txs, with_named, with_log};
+ghost use Rattle.rc_runs.specs.Starts.{named_by_coords, named_by_shards};
 ghost use Rattle.rc_runs.specs.Stored.{records_of};
-ghost use Rattle.rc_world.specs.Logs.{records_in};
+ghost use Rattle.rc_world.specs.Logs.{records_in, names_of};
 
 use rc_body::Page;
 use rc_ids::{Blob, Blobs, NoMemory, TxId};
@@ -56,11 +57,7 @@ fn add_blob(alloc: Global, named: &mut BTreeSet<TxId>, blob: &Blob) -> Result<()
 }
 
 /// Adds the transactions that the records of a log name. A head names none. Where there is no memory, some of them may have been added.
-pub(crate) fn add_names(
-    alloc: Global,
-    named: &mut BTreeSet<TxId>,
-    records: &Blobs,
-) -> Result<(), NoMemory>
+fn add_names(alloc: Global, named: &mut BTreeSet<TxId>, records: &Blobs) -> Result<(), NoMemory>
     ensures { OnOk result (named.new.keys ≡ with_log named.old.keys (records_of records.now)) }
 {
     let log = records.as_slice();
@@ -68,4 +65,29 @@ pub(crate) fn add_names(
         add_blob(alloc, named, &log[place])?;
     }
     Ok(())
+}
+
+/// Adds the transactions that logs name, log by log.
+fn add_all(alloc: Global, named: &mut BTreeSet<TxId>, logs: &[Blobs]) -> Result<(), NoMemory>
+    ensures { OnOk result (named.new.keys ≡ names_of named.old.keys logs.now) }
+{
+    for place in 0..logs.len() {
+        add_names(alloc, named, &logs[place])?;
+    }
+    Ok(())
+}
+
+/// The transactions that the logs of all coordinators and shard servers name, with which a run begins.
+pub(crate) fn names_of_logs(
+    alloc: Global,
+    coord_logs: &[Blobs],
+    shard_logs: &[Blobs],
+) -> Result<BTreeSet<TxId>, NoMemory>
+    ensures { IfOk result (λ named. (coords : List CoordNode) (shards : List ShardNode) → map (λ x. x.log) coords ≡ map records_of coord_logs.now → map (λ x. x.log) shards ≡ map records_of shard_logs.now
+        → named.keys ≡ named_by_shards (named_by_coords [] coords) shards) }
+{
+    let mut named = BTreeSet::new(alloc);
+    add_all(alloc, &mut named, coord_logs)?;
+    add_all(alloc, &mut named, shard_logs)?;
+    Ok(named)
 }
