@@ -33,3 +33,6 @@ pub mod CoordStops
 pub mod ShardStops
 pub mod Weighing
 pub mod Powered
+pub mod LogSteps
+pub mod LogOrders
+pub mod StartFacts

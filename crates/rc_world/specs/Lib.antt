@@ -17,3 +17,5 @@ pub mod Refused
 pub mod CoordActed
 pub mod Noted
 pub mod Asked
+pub mod Logs
+pub mod Beginnings

@@ -1,14 +1,17 @@
 //! A world of nodes on their disks, clients and the network between them: one event on all.
 #![tactic(auto)]
 
+mod beginning;
 mod clients;
 mod commands;
 mod coords;
 mod events;
 mod fault;
 mod mail;
+mod named;
 mod nodes;
 mod noting;
+mod orders;
 mod places;
 mod powering;
 mod receiving;
