@@ -35,3 +35,5 @@ pub mod Weighing
 pub mod LogSteps
 pub mod LogOrders
 pub mod StartFacts
+pub mod Gathered
+pub mod GatheredMore
