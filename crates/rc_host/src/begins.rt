@@ -12,7 +12,7 @@ ghost use Rattle.rc_runs.specs.Stored as stored;
 ghost use Rattle.rc_devices.specs.Disks.{IsKept};
 ghost use Rattle.rc_host.specs.Standing.{Standing};
 ghost use Rattle.rc_host.specs.declared.begins.BeginFault.TheVariants.{NoMemory as OutOfMemory};
-ghost use Rattle.rc_host.specs.Hosts.{Run, sight, IfUp, IsHost, HasLog, IsToldBy};
+ghost use Rattle.rc_host.specs.Hosts.{Run, sight, IfUp, IsThere, IsHost, HasLog, IsToldBy};
 ghost use Rattle.rc_host.specs.AnyNode.{new_volatile};
 ghost use Rattle.rc_host.specs.Begins.{newest_bytes, HeadFault, IsStored, IsReady, HasBegun, HasNotBegun, IsAtStart, OwedFault, begin_fault};
 
@@ -166,6 +166,7 @@ fn take_up<D: Disk, N: Node<Log<D>>>(
         → IfOk result (λ host. IsHost (sight N.seen ⟦<Log<D> as Journal>⟧.state D.told D.content D.power) (N.back run.node run.cluster) run host x d) }
     ensures err { IfErr result (λ e. (e.0 ≡ OutOfMemory) × (D.power e.1 ≡ On) × (D.told e.1 ≡ option_map powered_disk (⟦<Log<D> as Journal>⟧.state log).told)) }
     ensures up { IfOk result (λ host. IfUp host (λ node. (N.seen node).stopped ≡ false)) }
+    ensures there { IfOk result (λ host. IsThere host) }
     ensures grew { IfOk result (λ host. (ended : Told) → IsToldBy (sight N.seen ⟦<Log<D> as Journal>⟧.state D.told D.content D.power) host ended → IfSome (⟦<Log<D> as Journal>⟧.state log).told (λ t. IsKept t ended)) }
 {
     match N::restart(alloc, node, cluster, log, durable) {
@@ -190,6 +191,7 @@ fn begin_on<D: Disk, N: Node<Log<D>>>(
         → IfErr result (λ e. IfSome (D.told e.1) (λ t. IsKept t run.ended) → HasNotBegun run (stored.takes_log run.cluster run.node d records) e.0) }
     ensures on { IfErr result (λ e. D.power e.1 ≡ On) }
     ensures up { IfOk result (λ b. IfUp b.0 (λ node. (N.seen node).stopped ≡ false)) }
+    ensures there { IfOk result (λ b. IsThere b.0) }
     ensures grew { IfOk result (λ b. (ended : Told) → IsToldBy (sight N.seen ⟦<Log<D> as Journal>⟧.state D.told D.content D.power) b.0 ended → IfSome (⟦<Log<D> as Journal>⟧.state log).told (λ t. IsKept t ended)) }
     ensures grew_err { IfErr result (λ e. (ended : Told) → IfSome (D.told e.1) (λ t. IsKept t ended) → IfSome (⟦<Log<D> as Journal>⟧.state log).told (λ t. IsKept t ended)) }
 {
@@ -228,6 +230,7 @@ fn create_and_begin<D: Disk, N: Node<Log<D>>>(
         → IfErr result (λ e. IfSome (D.told e.1) (λ t. IsKept t run.ended) → HasNotBegun run (stored.opens_log run.cluster run.node d []) e.0) }
     ensures on { IfErr result (λ e. D.power e.1 ≡ On) }
     ensures up { IfOk result (λ b. IfUp b.0 (λ node. (N.seen node).stopped ≡ false)) }
+    ensures there { IfOk result (λ b. IsThere b.0) }
 {
     match Log::create(alloc, disk, MOST_LOG_BYTES) {
         Ok(log) => begin_on(alloc, node, cluster, log, Blobs::new(alloc)),
@@ -254,6 +257,7 @@ fn open_and_begin<D: Disk, N: Node<Log<D>>>(
         → IfErr result (λ e. IfSome (D.told e.1) (λ t. IsKept t run.ended) → HasNotBegun run (stored.opens_log run.cluster run.node d (b ∷ bytes)) e.0) }
     ensures on { IfErr result (λ e. D.power e.1 ≡ On) }
     ensures up { IfOk result (λ b. IfUp b.0 (λ node. (N.seen node).stopped ≡ false)) }
+    ensures there { IfOk result (λ b. IsThere b.0) }
 {
     match Log::open(alloc, disk, MOST_LOG_BYTES) {
         Ok((log, records)) => begin_on(alloc, node, cluster, log, records),
@@ -281,6 +285,7 @@ pub fn begin<D: Disk, N: Node<Log<D>>>(
         → IfErr result (λ e. IfSome (D.told e.1) (λ t. IsKept t run.ended) → HasNotBegun run (stored.opens_log run.cluster run.node d content) e.0) }
     ensures on { IfErr result (λ e. D.power e.1 ≡ On) }
     ensures up { IfOk result (λ b. IfUp b.0 (λ node. (N.seen node).stopped ≡ false)) }
+    ensures there { IfOk result (λ b. IsThere b.0) }
 {
     if disk.len() == 0 {
         create_and_begin(alloc, &node, cluster, disk)

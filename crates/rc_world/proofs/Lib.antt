@@ -36,3 +36,5 @@ pub mod Powered
 pub mod LogSteps
 pub mod LogOrders
 pub mod StartFacts
+pub mod Gathered
+pub mod GatheredMore

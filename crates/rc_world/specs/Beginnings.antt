@@ -1,5 +1,5 @@
 -- How a node of a world begins, on a disk that its farm lends.
-use Rattle.std.specs.Prelude.{◌≡◌, ◌<◌, ◌≤◌, ◌+◌, ◌-◌, ◌^◌, ◌⊎◌, ℕ, min, Some, Err, Result}
+use Rattle.std.specs.Prelude.{◌≡◌, ◌<◌, ◌≤◌, ◌+◌, ◌-◌, ◌^◌, ◌⊎◌, ◌++◌, ℕ, min, List, [], ◌∷◌, Some, Err, Result}
 use Rattle.rc_ids.specs.declared.names.NodeId.{NodeId}
 use Rattle.rc_disk.specs.declared.power.Power.TheVariants.{On}
 use Rattle.rc_disk.specs.declared.farm.DeviceRefusal.{DeviceRefusal}
@@ -11,7 +11,10 @@ use Rattle.rc_runs.specs.Farms.{numbers_since, failed_by, is_by_list, calls_at, 
 use Rattle.rc_runs.specs.Session.{Halt, Limited, LogRefused, FarmFails}
 use Rattle.rc_runs.specs.Stored.{Place, Begun}
 use Rattle.rc_devices.specs.Disks.{AreWithin, AllWithin}
-use Rattle.rc_host.specs.Hosts.{Run}
+use Rattle.rc_host.specs.AnyNode.{NodeDurable}
+use Rattle.rc_host.specs.Hosts.{Sight, Run, IsToldBy}
+use Rattle.rc_host.specs.Begins.{HasBegun}
+use Rattle.rc_host.specs.declared.host.Host.{Host}
 use Rattle.rc_host.specs.declared.begins.BeginFault.{BeginFault}
 use Rattle.rc_host.specs.declared.begins.BeginFault.TheVariants as begin_faults
 use Rattle.rc_world.specs.declared.fault.WorldFault.{WorldFault}
@@ -55,3 +58,11 @@ BeginRefused before after begins Farm = HasRisen before after ⊎ (begins ≡ Er
 BeginRefused before after begins (Log node fault) = begins ≡ Err (LogRefused node fault)
 BeginRefused before after begins (Limit which) = begins ≡ Err (Limited which)
 BeginRefused before after begins (Naming name) = ⊥
+
+-- one node more has begun, behind those before it; the blobs are the records that its log had
+pub record IsNext {N J D : Type 0} (s : Sight N J D) (gives : List (List ℕ) → NodeDurable → Type 0) (run : Run) (begins : Result Begun Halt) (hosts hosts_now : List (Host N J D)) (logs logs_now : List (List (List ℕ))) : Type 0 where
+  pub host : Host N J D
+  pub blobs : List (List ℕ)
+  pub hosts_are : hosts_now ≡ hosts ++ host ∷ []
+  pub logs_are : logs_now ≡ logs ++ blobs ∷ []
+  pub begun : IsToldBy s host run.ended → HasBegun s gives run begins host blobs

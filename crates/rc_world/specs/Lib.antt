@@ -19,3 +19,4 @@ pub mod Noted
 pub mod Asked
 pub mod Logs
 pub mod Beginnings
+pub mod Gatherings

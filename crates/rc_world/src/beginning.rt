@@ -5,7 +5,7 @@ ghost use Rattle.rc_record.specs.Heads.{new_head};
 ghost use Rattle.rc_record.specs.Spelling.{HasHead};
 ghost use Rattle.rc_runs.specs.Stored.{Place, begins_node};
 ghost use Rattle.rc_devices.specs.Disks.{IsKept};
-ghost use Rattle.rc_host.specs.Hosts.{Run, IfUp, IsToldBy, sight};
+ghost use Rattle.rc_host.specs.Hosts.{Run, IfUp, IsThere, IsToldBy, sight};
 ghost use Rattle.rc_host.specs.Begins.{HasBegun};
 ghost use Rattle.rc_world.specs.Beginnings.{IsStartOf, BeginRefused};
 ghost use Rattle.rc_world.specs.Beginnings as beginnings;
@@ -73,6 +73,7 @@ pub(crate) fn begin_at<F: Farm, N: Node<Log<F::D>>>(
         → IfErr result (λ fault. IfSome (F.stands farm.new run.node).told (λ t. IsKept t run.ended)
         → BeginRefused (F.faults farm.old) (F.faults farm.new) (begins_node p run.cluster run.node) fault) }
     ensures up { IfOk result (λ b. IfUp b.0 (λ node. (N.seen node).stopped ≡ false)) }
+    ensures there { IfOk result (λ b. IsThere b.0) }
     ensures lent { OnOk result (F.is_lent farm.new node ≡ true) }
     ensures not_lent { OnErr result (F.is_lent farm.new node ≡ false) }
     ensures others_lent { (n : NodeName) → n ≢ node → F.is_lent farm.new n ≡ F.is_lent farm.old n }
