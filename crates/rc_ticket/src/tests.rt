@@ -1,7 +1,7 @@
 // Threads that share a lock.
-ghost use Rattle.std.specs.Prelude.{◌≡◌, []};
+ghost use Rattle.std.specs.Prelude.{◌≡◌, ℕ, []};
 ghost use Rattle.rc_ticket.specs.declared.rule.Card.{Card as Known};
-ghost use Rattle.rc_ticket.specs.Cards.{idle, at_rest};
+ghost use Rattle.rc_ticket.specs.Cards.{idle};
 
 use crate::{Guarded, Place, TicketLock};
 use std::alloc::{AllocError, Global};
@@ -55,8 +55,14 @@ fn sum_of_two<R: Threads + Wait + Sync>(rt: &R, alloc: Global) -> Result<u64, Al
     let shared = &lock;
     let (first, second) = thread::join(
         rt,
-        move || add(rt, shared, first),
-        move || add(rt, shared, second),
+        move ||
+            requires { (first.table_id ≡ shared.now.board.shared.table_id) × ((c : Known ℕ) × (first.me ≡ (idle c, []))) }
+            ensures { (result.table_id ≡ shared.entry.now.board.shared.table_id) × ((c : Known ℕ) × (result.me ≡ (idle c, []))) }
+        { add(rt, shared, first) },
+        move ||
+            requires { (second.table_id ≡ shared.now.board.shared.table_id) × ((c : Known ℕ) × (second.me ≡ (idle c, []))) }
+            ensures { (result.table_id ≡ shared.entry.now.board.shared.table_id) × ((c : Known ℕ) × (result.me ≡ (idle c, []))) }
+        { add(rt, shared, second) },
     );
     lock.gather(&mut all, first);
     lock.gather(&mut all, second);
