@@ -20,7 +20,7 @@ use std::thread::Threads;
 /// How many threads share a wire, and how many messages each of them sends.
 const THREADS: u32 = 32;
 
-const MESSAGES: u32 = 60;
+const MESSAGES: u32 = 25;
 
 fn rules(lose_every: u32, repeat_every: u32) -> Rules {
     Rules {
