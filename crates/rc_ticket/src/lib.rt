@@ -3,6 +3,8 @@
 
 mod lock;
 mod rule;
+#[cfg(test)]
+mod tests;
 
 pub use lock::TicketLock;
 pub use rule::{Card, Guarded, Place, View};

@@ -8,3 +8,4 @@ pub mod Dealing
 pub mod Turning
 pub mod Closing
 pub mod Arrivals
+pub mod Riders

@@ -5,10 +5,16 @@ mod fault;
 mod history;
 mod hub;
 mod mail;
+#[cfg(test)]
+mod pairs;
 mod pass;
 mod post;
+#[cfg(test)]
+mod riding;
 mod rules;
 mod standing;
+#[cfg(test)]
+mod tests;
 mod turn;
 mod want;
 mod wire;

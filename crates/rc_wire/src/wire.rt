@@ -65,32 +65,6 @@ fn names_of(alloc: Global, parties: &[Party], rules: Rules) -> Result<Names, NoM
     })
 }
 
-impl Blank {
-    /// A wire of these parties on which nothing was done, without its name.
-    pub fn make(alloc: Global, parties: &[Party], rules: Rules) -> Result<Blank, NoMemory>
-        requires some { 1 ≤ length parties.now }
-        requires differ { all_differ parties.now ≡ true }
-        ensures { IfOk result (λ b. b.lock.board.shared.key ≡ chronicle rules parties.now []) }
-    {
-        if parties.len() > MOST_PARTIES {
-            return Err(NoMemory);
-        }
-        let names = names_of(alloc, parties, rules)?;
-        let list = Vec::with_capacity(alloc, parties.len())?;
-        let hub = Hub::new(alloc, parties, rules)?;
-        let Ok((lock, place)) = TicketLock::new(alloc, hub, &names) else {
-            return Err(NoMemory);
-        };
-        let count = parties.len() as u64;
-        Ok(Blank {
-            lock,
-            place,
-            list,
-            count,
-        })
-    }
-}
-
 /// A place for the card of each seat, in order.
 fn deal_all(
     lock: &TicketLock<Hub, Known, Names>,
@@ -138,6 +112,30 @@ fn gather_all(
 }
 
 impl<W: WireName> Wire<W> {
+    /// A wire of these parties on which nothing was done, without its name. The name may be any, as `Brand`.
+    pub fn make(alloc: Global, parties: &[Party], rules: Rules) -> Result<Blank, NoMemory>
+        requires some { 1 ≤ length parties.now }
+        requires differ { all_differ parties.now ≡ true }
+        ensures { IfOk result (λ b. b.lock.board.shared.key ≡ chronicle rules parties.now []) }
+    {
+        if parties.len() > MOST_PARTIES {
+            return Err(NoMemory);
+        }
+        let names = names_of(alloc, parties, rules)?;
+        let list = Vec::with_capacity(alloc, parties.len())?;
+        let hub = Hub::new(alloc, parties, rules)?;
+        let Ok((lock, place)) = TicketLock::new(alloc, hub, &names) else {
+            return Err(NoMemory);
+        };
+        let count = parties.len() as u64;
+        Ok(Blank {
+            lock,
+            place,
+            list,
+            count,
+        })
+    }
+
     /// The wire under its name, and a pass for each party, in order. It takes no memory.
     pub fn open(blank: Blank) -> (Wire<W>, Passes<W>)
         requires { (blank.lock.board.shared.table_id ≡ W.table) × (blank.lock.board.shared.key ≡ W.names) }
