@@ -38,3 +38,4 @@ pub mod LogOrders
 pub mod StartFacts
 pub mod Gathered
 pub mod GatheredMore
+pub mod Causing

@@ -11,6 +11,7 @@ ghost use Rattle.rc_world.specs.Words.{parts_of, views};
 ghost use Rattle.rc_world.specs.Clients.{command};
 ghost use Rattle.rc_world.specs.Hosts.{Runs};
 ghost use Rattle.rc_world.specs.Steps.{IsDone, event_limit};
+ghost use Rattle.rc_world.specs.Limits.{CauseIs};
 ghost use Rattle.rc_world.specs.Worlds.{IsWorld, HasActed, KeepsCarried, AreTold, CanAllBeRead};
 
 use crate::WorldFault;
@@ -45,6 +46,8 @@ impl<F: Farm> World<F> {
     pub(crate) fn begin(&mut self, tx: TxId) -> Result<Sending, WorldFault>
         ensures ok { (r : Runs) (z : Session) → IsWorld (views ⟦<Log<F::D> as Journal>⟧.state F.D.told F.D.content F.D.power) r (parts_of self.old) z
             → IfOk result (λ s. HasActed (views ⟦<Log<F::D> as Journal>⟧.state F.D.told F.D.content F.D.power) r z (Begin tx) (parts_of self.new) s.from s.sends []) }
+        ensures err { (r : Runs) (z : Session) → IsWorld (views ⟦<Log<F::D> as Journal>⟧.state F.D.told F.D.content F.D.power) r (parts_of self.old) z
+            → IfErr result (CauseIs z (Begin tx)) }
         ensures carried { KeepsCarried (parts_of self.old) (parts_of self.new) }
         ensures grew { (r : Runs) → CanAllBeRead (views ⟦<Log<F::D> as Journal>⟧.state F.D.told F.D.content F.D.power) (parts_of self.old) → AreTold (views ⟦<Log<F::D> as Journal>⟧.state F.D.told F.D.content F.D.power) r (parts_of self.new) → AreTold (views ⟦<Log<F::D> as Journal>⟧.state F.D.told F.D.content F.D.power) r (parts_of self.old) }
     {
@@ -72,6 +75,8 @@ impl<F: Farm> World<F> {
         requires lines { lines.old ≡ [] }
         ensures ok { (r : Runs) (z : Session) (cause : ClientCause) → IsWorld (views ⟦<Log<F::D> as Journal>⟧.state F.D.told F.D.content F.D.power) r (parts_of self.old) z → command event.now ≡ Some (tx, cause)
             → IfOk result (λ s. HasActed (views ⟦<Log<F::D> as Journal>⟧.state F.D.told F.D.content F.D.power) r z event.now (parts_of self.new) s.from s.sends lines.new) }
+        ensures err { (r : Runs) (z : Session) (cause : ClientCause) → IsWorld (views ⟦<Log<F::D> as Journal>⟧.state F.D.told F.D.content F.D.power) r (parts_of self.old) z → command event.now ≡ Some (tx, cause)
+            → IfErr result (CauseIs z event.now) }
         ensures carried { KeepsCarried (parts_of self.old) (parts_of self.new) }
         ensures grew { (r : Runs) → CanAllBeRead (views ⟦<Log<F::D> as Journal>⟧.state F.D.told F.D.content F.D.power) (parts_of self.old) → AreTold (views ⟦<Log<F::D> as Journal>⟧.state F.D.told F.D.content F.D.power) r (parts_of self.new) → AreTold (views ⟦<Log<F::D> as Journal>⟧.state F.D.told F.D.content F.D.power) r (parts_of self.old) }
     {
@@ -103,6 +108,9 @@ impl<F: Farm> World<F> {
         ensures ok { (r : Runs) (z : Session) (e : AnyEvent) → IsWorld (views ⟦<Log<F::D> as Journal>⟧.state F.D.told F.D.content F.D.power) r (parts_of self.old) z
             → IsDone z e → deed z.world.parties z.world.sent e ≡ client_does z.world.parties tx (Hears msg.now) → actor z.world.sent e ≡ ClientParty tx → wrong z.world e ≡ None → begins e ≡ false
             → IfOk result (λ s. HasActed (views ⟦<Log<F::D> as Journal>⟧.state F.D.told F.D.content F.D.power) r z e (parts_of self.new) s.from s.sends lines.new) }
+        ensures err { (r : Runs) (z : Session) (e : AnyEvent) → IsWorld (views ⟦<Log<F::D> as Journal>⟧.state F.D.told F.D.content F.D.power) r (parts_of self.old) z
+            → IsDone z e → deed z.world.parties z.world.sent e ≡ client_does z.world.parties tx (Hears msg.now) → actor z.world.sent e ≡ ClientParty tx → wrong z.world e ≡ None → begins e ≡ false
+            → IfErr result (CauseIs z e) }
         ensures carried { KeepsCarried (parts_of self.old) (parts_of self.new) }
         ensures grew { (r : Runs) → CanAllBeRead (views ⟦<Log<F::D> as Journal>⟧.state F.D.told F.D.content F.D.power) (parts_of self.old) → AreTold (views ⟦<Log<F::D> as Journal>⟧.state F.D.told F.D.content F.D.power) r (parts_of self.new) → AreTold (views ⟦<Log<F::D> as Journal>⟧.state F.D.told F.D.content F.D.power) r (parts_of self.old) }
     {

@@ -14,6 +14,7 @@ ghost use Rattle.rc_world.specs.Words.{parts_of, views};
 ghost use Rattle.rc_world.specs.Places.{coord_name, shard_name};
 ghost use Rattle.rc_world.specs.Hosts.{Runs, HaveReadsLeft, CoordsAreTold, ShardsAreTold};
 ghost use Rattle.rc_world.specs.Steps.{IsDone, node_does};
+ghost use Rattle.rc_world.specs.Limits.{CauseIs};
 ghost use Rattle.rc_world.specs.Worlds.{IsWorld, HasActed, KeepsCarried, AreTold, CanAllBeRead};
 
 use crate::WorldFault;
@@ -43,6 +44,11 @@ impl<F: Farm> World<F> {
             → wrong z.world e ≡ None → begins e ≡ false → HaveReadsLeft r (shard_name r.cluster) z.shards
             → ShardsAreTold (views ⟦<Log<F::D> as Journal>⟧.state F.D.told F.D.content F.D.power).shards r (parts_of self.new).shards
             → IfOk result (λ s. HasActed (views ⟦<Log<F::D> as Journal>⟧.state F.D.told F.D.content F.D.power) r z e (parts_of self.new) s.from s.sends lines.new) }
+        ensures err { (r : Runs) (z : Session) (e : AnyEvent) → IsWorld (views ⟦<Log<F::D> as Journal>⟧.state F.D.told F.D.content F.D.power) r (parts_of self.old) z
+            → HasNodeCause (cause_of cause.now) → IsDone z e → deed z.world.parties z.world.sent e ≡ shard_does z.world.parties dc shard (cause_of cause.now) → actor z.world.sent e ≡ NodeParty (ShardServer dc shard)
+            → wrong z.world e ≡ None → begins e ≡ false → HaveReadsLeft r (shard_name r.cluster) z.shards
+            → ShardsAreTold (views ⟦<Log<F::D> as Journal>⟧.state F.D.told F.D.content F.D.power).shards r (parts_of self.new).shards
+            → IfErr result (CauseIs z e) }
         ensures carried { KeepsCarried (parts_of self.old) (parts_of self.new) }
         ensures grew { (r : Runs) → CanAllBeRead (views ⟦<Log<F::D> as Journal>⟧.state F.D.told F.D.content F.D.power) (parts_of self.old) → AreTold (views ⟦<Log<F::D> as Journal>⟧.state F.D.told F.D.content F.D.power) r (parts_of self.new) → AreTold (views ⟦<Log<F::D> as Journal>⟧.state F.D.told F.D.content F.D.power) r (parts_of self.old) }
     {
@@ -85,6 +91,11 @@ impl<F: Farm> World<F> {
             → wrong z.world e ≡ None → begins e ≡ false → HaveReadsLeft r coord_name z.coords
             → CoordsAreTold (views ⟦<Log<F::D> as Journal>⟧.state F.D.told F.D.content F.D.power).coords r (parts_of self.new).coords
             → IfOk result (λ s. HasActed (views ⟦<Log<F::D> as Journal>⟧.state F.D.told F.D.content F.D.power) r z e (parts_of self.new) s.from s.sends lines.new) }
+        ensures err { (r : Runs) (z : Session) (e : AnyEvent) → IsWorld (views ⟦<Log<F::D> as Journal>⟧.state F.D.told F.D.content F.D.power) r (parts_of self.old) z
+            → HasNodeCause (cause_of cause.now) → IsDone z e → deed z.world.parties z.world.sent e ≡ coord_does z.world.parties dc (cause_of cause.now) → actor z.world.sent e ≡ NodeParty (Coordinator dc)
+            → wrong z.world e ≡ None → begins e ≡ false → HaveReadsLeft r coord_name z.coords
+            → CoordsAreTold (views ⟦<Log<F::D> as Journal>⟧.state F.D.told F.D.content F.D.power).coords r (parts_of self.new).coords
+            → IfErr result (CauseIs z e) }
         ensures carried { KeepsCarried (parts_of self.old) (parts_of self.new) }
         ensures grew { (r : Runs) → CanAllBeRead (views ⟦<Log<F::D> as Journal>⟧.state F.D.told F.D.content F.D.power) (parts_of self.old) → AreTold (views ⟦<Log<F::D> as Journal>⟧.state F.D.told F.D.content F.D.power) r (parts_of self.new) → AreTold (views ⟦<Log<F::D> as Journal>⟧.state F.D.told F.D.content F.D.power) r (parts_of self.old) }
     {
@@ -121,6 +132,12 @@ impl<F: Farm> World<F> {
             → CoordsAreTold (views ⟦<Log<F::D> as Journal>⟧.state F.D.told F.D.content F.D.power).coords r (parts_of self.new).coords
             → ShardsAreTold (views ⟦<Log<F::D> as Journal>⟧.state F.D.told F.D.content F.D.power).shards r (parts_of self.new).shards
             → IfOk result (λ s. HasActed (views ⟦<Log<F::D> as Journal>⟧.state F.D.told F.D.content F.D.power) r z e (parts_of self.new) s.from s.sends lines.new) }
+        ensures err { (r : Runs) (z : Session) (e : AnyEvent) → IsWorld (views ⟦<Log<F::D> as Journal>⟧.state F.D.told F.D.content F.D.power) r (parts_of self.old) z
+            → HasNodeCause (cause_of cause.now) → IsDone z e → deed z.world.parties z.world.sent e ≡ node_does z.world.parties node.now (cause_of cause.now) → actor z.world.sent e ≡ NodeParty node.now
+            → wrong z.world e ≡ None → begins e ≡ false → HaveReadsLeft r coord_name z.coords → HaveReadsLeft r (shard_name r.cluster) z.shards
+            → CoordsAreTold (views ⟦<Log<F::D> as Journal>⟧.state F.D.told F.D.content F.D.power).coords r (parts_of self.new).coords
+            → ShardsAreTold (views ⟦<Log<F::D> as Journal>⟧.state F.D.told F.D.content F.D.power).shards r (parts_of self.new).shards
+            → IfErr result (CauseIs z e) }
         ensures carried { KeepsCarried (parts_of self.old) (parts_of self.new) }
         ensures grew { (r : Runs) → CanAllBeRead (views ⟦<Log<F::D> as Journal>⟧.state F.D.told F.D.content F.D.power) (parts_of self.old) → AreTold (views ⟦<Log<F::D> as Journal>⟧.state F.D.told F.D.content F.D.power) r (parts_of self.new) → AreTold (views ⟦<Log<F::D> as Journal>⟧.state F.D.told F.D.content F.D.power) r (parts_of self.old) }
     {
@@ -138,6 +155,11 @@ impl<F: Farm> World<F> {
             → CoordsAreTold (views ⟦<Log<F::D> as Journal>⟧.state F.D.told F.D.content F.D.power).coords r (parts_of self.new).coords
             → ShardsAreTold (views ⟦<Log<F::D> as Journal>⟧.state F.D.told F.D.content F.D.power).shards r (parts_of self.new).shards
             → IfOk result (λ s. HasActed (views ⟦<Log<F::D> as Journal>⟧.state F.D.told F.D.content F.D.power) r z (Catch node.now) (parts_of self.new) s.from s.sends lines.new) }
+        ensures err { (r : Runs) (z : Session) → IsWorld (views ⟦<Log<F::D> as Journal>⟧.state F.D.told F.D.content F.D.power) r (parts_of self.old) z
+            → HaveReadsLeft r coord_name z.coords → HaveReadsLeft r (shard_name r.cluster) z.shards
+            → CoordsAreTold (views ⟦<Log<F::D> as Journal>⟧.state F.D.told F.D.content F.D.power).coords r (parts_of self.new).coords
+            → ShardsAreTold (views ⟦<Log<F::D> as Journal>⟧.state F.D.told F.D.content F.D.power).shards r (parts_of self.new).shards
+            → IfErr result (CauseIs z (Catch node.now)) }
         ensures carried { KeepsCarried (parts_of self.old) (parts_of self.new) }
         ensures grew { (r : Runs) → CanAllBeRead (views ⟦<Log<F::D> as Journal>⟧.state F.D.told F.D.content F.D.power) (parts_of self.old) → AreTold (views ⟦<Log<F::D> as Journal>⟧.state F.D.told F.D.content F.D.power) r (parts_of self.new) → AreTold (views ⟦<Log<F::D> as Journal>⟧.state F.D.told F.D.content F.D.power) r (parts_of self.old) }
     {
@@ -157,6 +179,10 @@ impl<F: Farm> World<F> {
             → HasEvent (Take dc tx) → HaveReadsLeft r coord_name z.coords
             → CoordsAreTold (views ⟦<Log<F::D> as Journal>⟧.state F.D.told F.D.content F.D.power).coords r (parts_of self.new).coords
             → IfOk result (λ s. HasActed (views ⟦<Log<F::D> as Journal>⟧.state F.D.told F.D.content F.D.power) r z (Take dc tx) (parts_of self.new) s.from s.sends lines.new) }
+        ensures err { (r : Runs) (z : Session) → IsWorld (views ⟦<Log<F::D> as Journal>⟧.state F.D.told F.D.content F.D.power) r (parts_of self.old) z
+            → HasEvent (Take dc tx) → HaveReadsLeft r coord_name z.coords
+            → CoordsAreTold (views ⟦<Log<F::D> as Journal>⟧.state F.D.told F.D.content F.D.power).coords r (parts_of self.new).coords
+            → IfErr result (CauseIs z (Take dc tx)) }
         ensures carried { KeepsCarried (parts_of self.old) (parts_of self.new) }
         ensures grew { (r : Runs) → CanAllBeRead (views ⟦<Log<F::D> as Journal>⟧.state F.D.told F.D.content F.D.power) (parts_of self.old) → AreTold (views ⟦<Log<F::D> as Journal>⟧.state F.D.told F.D.content F.D.power) r (parts_of self.new) → AreTold (views ⟦<Log<F::D> as Journal>⟧.state F.D.told F.D.content F.D.power) r (parts_of self.old) }
     {

@@ -1,5 +1,5 @@
 // Messages come.
-ghost use Rattle.std.specs.Prelude.{◌≡◌, [], false, None, IfOk};
+ghost use Rattle.std.specs.Prelude.{◌≡◌, [], false, None, IfOk, IfErr};
 ghost use Rattle.rc_msg.specs.Spelling.{HasEnvelope};
 ghost use Rattle.rc_runs.specs.declared.event.Event.{Event as AnyEvent};
 ghost use Rattle.rc_runs.specs.declared.event.Event.TheVariants.{Deliver};
@@ -10,6 +10,7 @@ ghost use Rattle.rc_world.specs.Words.{parts_of, views};
 ghost use Rattle.rc_world.specs.Places.{coord_name, shard_name};
 ghost use Rattle.rc_world.specs.Hosts.{Runs, HaveReadsLeft, CoordsAreTold, ShardsAreTold};
 ghost use Rattle.rc_world.specs.Steps.{IsDone};
+ghost use Rattle.rc_world.specs.Limits.{CauseIs};
 ghost use Rattle.rc_world.specs.Worlds.{IsWorld, HasActed, KeepsCarried, AreTold, CanAllBeRead};
 
 use crate::WorldFault;
@@ -32,6 +33,12 @@ impl<F: Farm> World<F> {
             → CoordsAreTold (views ⟦<Log<F::D> as Journal>⟧.state F.D.told F.D.content F.D.power).coords r (parts_of self.new).coords
             → ShardsAreTold (views ⟦<Log<F::D> as Journal>⟧.state F.D.told F.D.content F.D.power).shards r (parts_of self.new).shards
             → IfOk result (λ s. HasActed (views ⟦<Log<F::D> as Journal>⟧.state F.D.told F.D.content F.D.power) r z e (parts_of self.new) s.from s.sends lines.new) }
+        ensures err { (r : Runs) (z : Session) (e : AnyEvent) → IsWorld (views ⟦<Log<F::D> as Journal>⟧.state F.D.told F.D.content F.D.power) r (parts_of self.old) z
+            → HasEnvelope envelope.now → IsDone z e → deed z.world.parties z.world.sent e ≡ received z.world.parties envelope.now envelope.now.to → actor z.world.sent e ≡ envelope.now.to → wrong z.world e ≡ None → begins e ≡ false
+            → HaveReadsLeft r coord_name z.coords → HaveReadsLeft r (shard_name r.cluster) z.shards
+            → CoordsAreTold (views ⟦<Log<F::D> as Journal>⟧.state F.D.told F.D.content F.D.power).coords r (parts_of self.new).coords
+            → ShardsAreTold (views ⟦<Log<F::D> as Journal>⟧.state F.D.told F.D.content F.D.power).shards r (parts_of self.new).shards
+            → IfErr result (CauseIs z e) }
         ensures carried { KeepsCarried (parts_of self.old) (parts_of self.new) }
         ensures grew { (r : Runs) → CanAllBeRead (views ⟦<Log<F::D> as Journal>⟧.state F.D.told F.D.content F.D.power) (parts_of self.old) → AreTold (views ⟦<Log<F::D> as Journal>⟧.state F.D.told F.D.content F.D.power) r (parts_of self.new) → AreTold (views ⟦<Log<F::D> as Journal>⟧.state F.D.told F.D.content F.D.power) r (parts_of self.old) }
     {
@@ -51,6 +58,11 @@ impl<F: Farm> World<F> {
             → CoordsAreTold (views ⟦<Log<F::D> as Journal>⟧.state F.D.told F.D.content F.D.power).coords r (parts_of self.new).coords
             → ShardsAreTold (views ⟦<Log<F::D> as Journal>⟧.state F.D.told F.D.content F.D.power).shards r (parts_of self.new).shards
             → IfOk result (λ s. HasActed (views ⟦<Log<F::D> as Journal>⟧.state F.D.told F.D.content F.D.power) r z (Deliver number) (parts_of self.new) s.from s.sends lines.new) }
+        ensures err { (r : Runs) (z : Session) → IsWorld (views ⟦<Log<F::D> as Journal>⟧.state F.D.told F.D.content F.D.power) r (parts_of self.old) z
+            → HaveReadsLeft r coord_name z.coords → HaveReadsLeft r (shard_name r.cluster) z.shards
+            → CoordsAreTold (views ⟦<Log<F::D> as Journal>⟧.state F.D.told F.D.content F.D.power).coords r (parts_of self.new).coords
+            → ShardsAreTold (views ⟦<Log<F::D> as Journal>⟧.state F.D.told F.D.content F.D.power).shards r (parts_of self.new).shards
+            → IfErr result (CauseIs z (Deliver number)) }
         ensures carried { KeepsCarried (parts_of self.old) (parts_of self.new) }
         ensures grew { (r : Runs) → CanAllBeRead (views ⟦<Log<F::D> as Journal>⟧.state F.D.told F.D.content F.D.power) (parts_of self.old) → AreTold (views ⟦<Log<F::D> as Journal>⟧.state F.D.told F.D.content F.D.power) r (parts_of self.new) → AreTold (views ⟦<Log<F::D> as Journal>⟧.state F.D.told F.D.content F.D.power) r (parts_of self.old) }
     {

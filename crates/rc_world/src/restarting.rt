@@ -1,5 +1,5 @@
 // A node starts again in an event.
-ghost use Rattle.std.specs.Prelude.{◌≡◌, [], ◌∷◌, None, false, IfOk};
+ghost use Rattle.std.specs.Prelude.{◌≡◌, [], ◌∷◌, None, false, IfOk, IfErr};
 ghost use Rattle.rc_ids.specs.declared.names.NodeId.TheVariants.{Coord as Coordinator, Shard as ShardServer};
 ghost use Rattle.rc_report.specs.declared.line.Line.TheVariants.{Up};
 ghost use Rattle.rc_runs.specs.declared.event.Event.TheVariants.{Restart};
@@ -9,6 +9,7 @@ ghost use Rattle.rc_world.specs.Words.{parts_of, views};
 ghost use Rattle.rc_world.specs.Places.{coord_name, shard_name};
 ghost use Rattle.rc_world.specs.Hosts.{Runs, HaveReadsLeft};
 ghost use Rattle.rc_world.specs.Steps.{event_limit};
+ghost use Rattle.rc_world.specs.Limits.{CauseIs};
 ghost use Rattle.rc_world.specs.Worlds.{IsWorld, HasActed, KeepsCarried, AreTold, CanAllBeRead};
 
 use crate::WorldFault;
@@ -28,6 +29,9 @@ impl<F: Farm> World<F> {
         ensures ok { (r : Runs) (z : Session) → IsWorld (views ⟦<Log<F::D> as Journal>⟧.state F.D.told F.D.content F.D.power) r (parts_of self.old) z → event_limit (parts_of self.old).events ≡ None → is_up z.world.parties (Coordinator dc) ≡ false
             → HaveReadsLeft r coord_name z.coords → AreTold (views ⟦<Log<F::D> as Journal>⟧.state F.D.told F.D.content F.D.power) r (parts_of self.new)
             → IfOk result (λ s. HasActed (views ⟦<Log<F::D> as Journal>⟧.state F.D.told F.D.content F.D.power) r z (Restart (Coordinator dc)) (parts_of self.new) s.from s.sends (Up (Coordinator dc) ∷ [])) }
+        ensures err { (r : Runs) (z : Session) → IsWorld (views ⟦<Log<F::D> as Journal>⟧.state F.D.told F.D.content F.D.power) r (parts_of self.old) z → event_limit (parts_of self.old).events ≡ None → is_up z.world.parties (Coordinator dc) ≡ false
+            → HaveReadsLeft r coord_name z.coords → AreTold (views ⟦<Log<F::D> as Journal>⟧.state F.D.told F.D.content F.D.power) r (parts_of self.new)
+            → IfErr result (CauseIs z (Restart (Coordinator dc))) }
         ensures carried { KeepsCarried (parts_of self.old) (parts_of self.new) }
         ensures grew { (r : Runs) → CanAllBeRead (views ⟦<Log<F::D> as Journal>⟧.state F.D.told F.D.content F.D.power) (parts_of self.old) → AreTold (views ⟦<Log<F::D> as Journal>⟧.state F.D.told F.D.content F.D.power) r (parts_of self.new) → AreTold (views ⟦<Log<F::D> as Journal>⟧.state F.D.told F.D.content F.D.power) r (parts_of self.old) }
     {
@@ -58,6 +62,9 @@ impl<F: Farm> World<F> {
         ensures ok { (r : Runs) (z : Session) → IsWorld (views ⟦<Log<F::D> as Journal>⟧.state F.D.told F.D.content F.D.power) r (parts_of self.old) z → event_limit (parts_of self.old).events ≡ None → is_up z.world.parties (ShardServer dc shard) ≡ false
             → HaveReadsLeft r (shard_name r.cluster) z.shards → AreTold (views ⟦<Log<F::D> as Journal>⟧.state F.D.told F.D.content F.D.power) r (parts_of self.new)
             → IfOk result (λ s. HasActed (views ⟦<Log<F::D> as Journal>⟧.state F.D.told F.D.content F.D.power) r z (Restart (ShardServer dc shard)) (parts_of self.new) s.from s.sends (Up (ShardServer dc shard) ∷ [])) }
+        ensures err { (r : Runs) (z : Session) → IsWorld (views ⟦<Log<F::D> as Journal>⟧.state F.D.told F.D.content F.D.power) r (parts_of self.old) z → event_limit (parts_of self.old).events ≡ None → is_up z.world.parties (ShardServer dc shard) ≡ false
+            → HaveReadsLeft r (shard_name r.cluster) z.shards → AreTold (views ⟦<Log<F::D> as Journal>⟧.state F.D.told F.D.content F.D.power) r (parts_of self.new)
+            → IfErr result (CauseIs z (Restart (ShardServer dc shard))) }
         ensures carried { KeepsCarried (parts_of self.old) (parts_of self.new) }
         ensures grew { (r : Runs) → CanAllBeRead (views ⟦<Log<F::D> as Journal>⟧.state F.D.told F.D.content F.D.power) (parts_of self.old) → AreTold (views ⟦<Log<F::D> as Journal>⟧.state F.D.told F.D.content F.D.power) r (parts_of self.new) → AreTold (views ⟦<Log<F::D> as Journal>⟧.state F.D.told F.D.content F.D.power) r (parts_of self.old) }
     {
@@ -87,6 +94,9 @@ impl<F: Farm> World<F> {
         ensures ok { (r : Runs) (z : Session) → IsWorld (views ⟦<Log<F::D> as Journal>⟧.state F.D.told F.D.content F.D.power) r (parts_of self.old) z → event_limit (parts_of self.old).events ≡ None → is_up z.world.parties node.now ≡ false
             → HaveReadsLeft r coord_name z.coords → HaveReadsLeft r (shard_name r.cluster) z.shards → AreTold (views ⟦<Log<F::D> as Journal>⟧.state F.D.told F.D.content F.D.power) r (parts_of self.new)
             → IfOk result (λ s. HasActed (views ⟦<Log<F::D> as Journal>⟧.state F.D.told F.D.content F.D.power) r z (Restart node.now) (parts_of self.new) s.from s.sends (Up node.now ∷ [])) }
+        ensures err { (r : Runs) (z : Session) → IsWorld (views ⟦<Log<F::D> as Journal>⟧.state F.D.told F.D.content F.D.power) r (parts_of self.old) z → event_limit (parts_of self.old).events ≡ None → is_up z.world.parties node.now ≡ false
+            → HaveReadsLeft r coord_name z.coords → HaveReadsLeft r (shard_name r.cluster) z.shards → AreTold (views ⟦<Log<F::D> as Journal>⟧.state F.D.told F.D.content F.D.power) r (parts_of self.new)
+            → IfErr result (CauseIs z (Restart node.now)) }
         ensures carried { KeepsCarried (parts_of self.old) (parts_of self.new) }
         ensures grew { (r : Runs) → CanAllBeRead (views ⟦<Log<F::D> as Journal>⟧.state F.D.told F.D.content F.D.power) (parts_of self.old) → AreTold (views ⟦<Log<F::D> as Journal>⟧.state F.D.told F.D.content F.D.power) r (parts_of self.new) → AreTold (views ⟦<Log<F::D> as Journal>⟧.state F.D.told F.D.content F.D.power) r (parts_of self.old) }
     {
@@ -106,6 +116,9 @@ impl<F: Farm> World<F> {
         ensures ok { (r : Runs) (z : Session) → IsWorld (views ⟦<Log<F::D> as Journal>⟧.state F.D.told F.D.content F.D.power) r (parts_of self.old) z
             → HaveReadsLeft r coord_name z.coords → HaveReadsLeft r (shard_name r.cluster) z.shards → AreTold (views ⟦<Log<F::D> as Journal>⟧.state F.D.told F.D.content F.D.power) r (parts_of self.new)
             → IfOk result (λ s. HasActed (views ⟦<Log<F::D> as Journal>⟧.state F.D.told F.D.content F.D.power) r z (Restart node.now) (parts_of self.new) s.from s.sends lines.new) }
+        ensures err { (r : Runs) (z : Session) → IsWorld (views ⟦<Log<F::D> as Journal>⟧.state F.D.told F.D.content F.D.power) r (parts_of self.old) z
+            → HaveReadsLeft r coord_name z.coords → HaveReadsLeft r (shard_name r.cluster) z.shards → AreTold (views ⟦<Log<F::D> as Journal>⟧.state F.D.told F.D.content F.D.power) r (parts_of self.new)
+            → IfErr result (CauseIs z (Restart node.now)) }
         ensures carried { KeepsCarried (parts_of self.old) (parts_of self.new) }
         ensures grew { (r : Runs) → CanAllBeRead (views ⟦<Log<F::D> as Journal>⟧.state F.D.told F.D.content F.D.power) (parts_of self.old) → AreTold (views ⟦<Log<F::D> as Journal>⟧.state F.D.told F.D.content F.D.power) r (parts_of self.new) → AreTold (views ⟦<Log<F::D> as Journal>⟧.state F.D.told F.D.content F.D.power) r (parts_of self.old) }
     {

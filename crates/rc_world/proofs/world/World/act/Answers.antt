@@ -54,3 +54,21 @@ pub returns-in-CrashAt-clause-ok : goal.returns-in-CrashAt-clause-ok
 returns-in-CrashAt-clause-ok g c = λ r z is has left_coords left_shards told.
     let same = c.in-CrashAt.is ∙ ap (λ (k : ℕ). CrashAt c.in-CrashAt.node k c.in-CrashAt.pick) (sym c.from.ensures) in
     happened_as _ r z _ _ _ [] _ same c.requires.lines c.arm.result (c.arm.ensures.ok r z is)
+
+pub returns-in-Read-clause-err : goal.returns-in-Read-clause-err
+returns-in-Read-clause-err g c = λ r z is has left_coords left_shards told. c.command.ensures.err r z _ is (ap command c.in-Read.is)
+
+pub returns-in-Write-clause-err : goal.returns-in-Write-clause-err
+returns-in-Write-clause-err g c = λ r z is has left_coords left_shards told. c.command-in-Write.ensures.err r z _ is (ap command c.in-Write.is)
+
+pub returns-in-Commit-clause-err : goal.returns-in-Commit-clause-err
+returns-in-Commit-clause-err g c = λ r z is has left_coords left_shards told. c.command-in-Commit.ensures.err r z _ is (ap command c.in-Commit.is)
+
+pub returns-in-Cancel-clause-err : goal.returns-in-Cancel-clause-err
+returns-in-Cancel-clause-err g c = λ r z is has left_coords left_shards told. c.command-in-Cancel.ensures.err r z _ is (ap command c.in-Cancel.is)
+
+pub returns-in-Retry-clause-err : goal.returns-in-Retry-clause-err
+returns-in-Retry-clause-err g c = λ r z is has left_coords left_shards told. c.command-in-Retry.ensures.err r z _ is (ap command c.in-Retry.is)
+
+pub returns-in-Vanish-clause-err : goal.returns-in-Vanish-clause-err
+returns-in-Vanish-clause-err g c = λ r z is has left_coords left_shards told. c.command-in-Vanish.ensures.err r z _ is (ap command c.in-Vanish.is)
