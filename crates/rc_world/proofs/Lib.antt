@@ -37,3 +37,4 @@ pub mod LogOrders
 pub mod StartFacts
 pub mod Gathered
 pub mod GatheredMore
+pub mod Serving
