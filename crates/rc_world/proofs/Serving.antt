@@ -1,14 +1,14 @@
--- The shard servers of a datacentre begin, one after another.
+-- The nodes of a datacentre begin, one after another.
 use Rattle.std.proofs.Common.{◌≡◌, ℕ, zero, suc, ◌+◌, ◌-◌, ◌*◌, ◌<◌, ◌≤◌, Bool, true, false, List, [], ◌∷◌, ◌++◌, length, take, map, Some, refl, sym, ap, ◌∙◌, subst, arith, ⊎_elim, append_assoc, add-one, IsTrue}
-use Rattle.std.specs.Prelude.{slice_get, ◌≢◌}
+use Rattle.std.specs.Prelude.{slice_get, ◌≢◌, nat_lt}
 use Rattle.std.proofs.lemmas.List.{map-append}
 use Rattle.rc_ids.specs.Tables.{up_to}
 use Rattle.rc_ids.specs.Cluster.{Layout, is_dc, is_shard}
 use Rattle.rc_ids.specs.declared.names.NodeId.{NodeId}
-use Rattle.rc_ids.specs.declared.names.NodeId.TheVariants.{Shard as ShardServer}
+use Rattle.rc_ids.specs.declared.names.NodeId.TheVariants.{Coord, Shard as ShardServer}
 use Rattle.rc_disk.specs.Places.{Standing}
 use Rattle.rc_protocol.specs.Nodes.{shard_index}
-use Rattle.rc_runs.specs.Stored.{Place}
+use Rattle.rc_runs.specs.Stored.{Place, nodes_of_dc}
 use Rattle.rc_world.specs.Places.{shard_name, AllAt}
 use Rattle.rc_host.specs.declared.host.Host.{Host}
 use Rattle.rc_world.specs.Hosts.{Runs, Views, run_at}
@@ -100,3 +100,28 @@ module _ {C S J D : Type 0} (v : Views C S J D) (r : Runs) (p : Place) (nodes : 
   pub all_serve : (m : ℕ) → n ≡ m → AreGathered v r p (nodes ++ servers d n) coords coord_logs shards shard_logs
       → AreGathered v r p (nodes ++ servers d m) coords coord_logs shards shard_logs
   all_serve m is are = subst (λ (k : ℕ). AreGathered v r p (nodes ++ servers d k) coords coord_logs shards shard_logs) is are
+
+-- A DATACENTRE
+pub all_same : {H : Type 0} (P : ℕ → H → Type 0) (now was : List H) → now ≡ was → AllAt P now → AllAt P was
+all_same P now was same all = subst (AllAt P) same all
+
+pub lendable_still : (p : Place) (r : Runs) (start now : NodeId → Standing) (node : NodeId) → now node ≡ start node → IsLendable p r start node → IsLendable p r now node
+lendable_still p r start now node same is = record { lends = is.lends; starts = starts_still p r start now node same is }
+
+pub dc_serves : {C S J D : Type 0} (v : Views C S J D) (r : Runs) (p : Place) (c : Layout) (nodes : List NodeId) (d : ℕ) (coords : List (Host C J D)) (coord_logs : List (List (List ℕ))) (shards : List (Host S J D)) (shard_logs : List (List (List ℕ)))
+    → AreGathered v r p ((nodes ++ Coord d ∷ []) ++ servers d c.shards) coords coord_logs shards shard_logs
+    → AreGathered v r p (nodes ++ nodes_of_dc c d) coords coord_logs shards shard_logs
+dc_serves v r p c nodes d coords coord_logs shards shard_logs are =
+    subst (λ (ns : List NodeId). AreGathered v r p ns coords coord_logs shards shard_logs) (append_assoc nodes (Coord d ∷ []) (servers d c.shards)) are
+
+pub not_more : (n m : ℕ) → m ≡ n → false ≡ nat_lt n m
+not_more n m same = grind arith
+
+pub one_lent : (n m : ℕ) → m ≡ n + 1 → true ≡ nat_lt n m
+one_lent n m more = grind arith
+
+pub none_lent : (n m sh : ℕ) → m ≡ n → false ≡ are_lent (m - n) sh
+none_lent n m sh same = let none : m - n ≡ 0 = omega arith in sym (ap (λ (k : ℕ). are_lent k sh) none ∙ of_none sh)
+  where
+    of_none : (k : ℕ) → are_lent 0 k ≡ false
+    of_none k = grind arith
