@@ -1,5 +1,5 @@
 -- The nodes of a datacentre begin, one after another.
-use Rattle.std.proofs.Common.{◌≡◌, ℕ, zero, suc, ◌+◌, ◌-◌, ◌*◌, ◌<◌, ◌≤◌, Bool, true, false, List, [], ◌∷◌, ◌++◌, length, take, map, Some, refl, sym, ap, ◌∙◌, subst, arith, ⊎_elim, append_assoc, add-one, IsTrue}
+use Rattle.std.proofs.Common.{◌≡◌, ℕ, zero, suc, ◌+◌, ◌-◌, ◌*◌, ◌<◌, ◌≤◌, Bool, true, false, List, [], ◌∷◌, ◌++◌, length, take, Some, refl, sym, ap, ◌∙◌, subst, arith, ⊎_elim, append_assoc, add-one}
 use Rattle.std.specs.Prelude.{slice_get, ◌≢◌, nat_lt}
 use Rattle.std.proofs.lemmas.List.{map-append}
 use Rattle.rc_ids.specs.Tables.{up_to}
