@@ -6,11 +6,10 @@ use Rattle.rc_ids.specs.Tables.{maybe}
 use Rattle.rc_ids.specs.Cluster.{Layout}
 use Rattle.rc_ids.specs.declared.names.NodeId.{NodeId}
 use Rattle.rc_record.specs.declared.record.Record.{Record}
-use Rattle.rc_report.specs.declared.fault.LogFault.{LogFault}
 use Rattle.rc_log.specs.Records.{records}
 use Rattle.rc_runs.specs.Devices.{Device, Fate, Made, Full, FailsAt, opened, powered}
 use Rattle.rc_runs.specs.Session.{Halt, FarmFails}
-use Rattle.rc_runs.specs.Stored.{Place, Begun, begins_node, begins_all, and_then, with_rest, head_added, with_head, creates, takes_log, reads_log, opens_log, refusal, owes_head, device_at}
+use Rattle.rc_runs.specs.Stored.{Place, Begun, begins_node, begins_all, with_rest, head_added, creates, takes_log, reads_log, opens_log, refusal, owes_head, device_at}
 use Rattle.rc_world.specs.Places.{AreAt, AllAt}
 
 -- ONE MORE AT THE END of a list

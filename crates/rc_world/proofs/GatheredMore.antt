@@ -1,5 +1,5 @@
 -- A coordinator or a shard server more has begun.
-use Rattle.std.proofs.Common.{◌≡◌, ℕ, List, [], ◌∷◌, ◌++◌, length, map, Ok, refl, sym, ap, ◌∙◌, subst}
+use Rattle.std.proofs.Common.{◌≡◌, ℕ, List, [], ◌∷◌, ◌++◌, length, map, refl, sym, ap, ◌∙◌, subst}
 use Rattle.std.proofs.lemmas.List.{append-nil, map-append}
 use Rattle.std.proofs.lemmas.Grind.{flat_map-append}
 use Rattle.std.specs.List.{flat_map}
@@ -7,15 +7,13 @@ use Rattle.rc_ids.specs.declared.names.NodeId.{NodeId}
 use Rattle.rc_ids.specs.declared.names.NodeId.TheVariants.{Coord, Shard as ShardServer}
 use Rattle.rc_record.specs.declared.record.Record.{Record}
 use Rattle.rc_protocol.specs.Nodes.{CoordNode, ShardNode, coord_started, shard_started}
-use Rattle.rc_runs.specs.Devices.{Device}
 use Rattle.rc_runs.specs.Stored.{Place, Begun, begins_node, if_coord, if_shard, coords_of, shards_of, records_of}
 use Rattle.rc_host.specs.AnyNode.{coord_back, shard_back}
 use Rattle.rc_host.specs.Standing.{coord_standing, shard_standing}
 use Rattle.rc_host.specs.Hosts.{IsHost, IsToldBy}
-use Rattle.rc_host.specs.Begins.{HasBegun}
 use Rattle.rc_host.specs.declared.host.Host.{Host}
 use Rattle.rc_world.specs.Beginnings.{IsNext}
-use Rattle.rc_world.specs.Places.{coord_name, shard_name, AreAt, AllAt}
+use Rattle.rc_world.specs.Places.{coord_name, shard_name, AreAt}
 use Rattle.rc_world.specs.Hosts.{Runs, Views, run_at, IsCoord, IsShard, CoordsAreTold, ShardsAreTold}
 use Rattle.rc_world.specs.Gatherings.{AreGathered, coord_devices, shard_devices}
 use Rattle.rc_world.proofs.Gathered.{one_behind, all_end, begins_more, begun_named}

@@ -39,3 +39,4 @@ pub mod StartFacts
 pub mod Gathered
 pub mod GatheredMore
 pub mod Causing
+pub mod Serving

@@ -1,5 +1,5 @@
 -- The order that the logs of all coordinators have, and the names in all logs.
-use Rattle.std.proofs.Common.{◌≡◌, ℕ, suc, ◌+◌, List, [], ◌∷◌, ◌++◌, length, map, refl, sym, ap, ◌∙◌, subst}
+use Rattle.std.proofs.Common.{◌≡◌, ℕ, suc, List, [], ◌∷◌, length, map, refl, sym, ap, ◌∙◌, subst}
 use Rattle.std.proofs.lemmas.List.{length-map}
 use Rattle.rc_ids.specs.Cluster.{Layout}
 use Rattle.rc_body.specs.declared.entry.Entry.{Entry}

@@ -1,10 +1,9 @@
 -- A disk at the start of a run, as its farm tells of it.
-use Rattle.std.proofs.Common.{◌≡◌, ℕ, ◌+◌, ◌-◌, ◌^◌, ◌<◌, Bool, true, false, List, Option, Some, Result, Err, IfSome, refl, sym, ap, ◌∙◌, subst, inl, inr, add-zero}
-use Rattle.std.specs.Prelude.{◌⊎◌, if◌then◌else◌}
+use Rattle.std.proofs.Common.{◌≡◌, ℕ, ◌-◌, ◌^◌, ◌<◌, Bool, false, List, Option, Result, Err, IfSome, refl, sym, ap, ◌∙◌, subst, inr, add-zero}
+use Rattle.std.specs.Prelude.{if◌then◌else◌}
 use Rattle.rc_ids.specs.Cluster.{Layout}
 use Rattle.rc_ids.specs.declared.names.NodeId.{NodeId}
 use Rattle.rc_disk.specs.declared.power.Power.{Power}
-use Rattle.rc_disk.specs.declared.power.Power.TheVariants.{On}
 use Rattle.rc_disk.specs.Calls.{Told}
 use Rattle.rc_disk.specs.Places.{Standing, standing}
 use Rattle.rc_runs.specs.Farms.{calls_at, reads_at}

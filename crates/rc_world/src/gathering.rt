@@ -1,5 +1,5 @@
 // The nodes of a world begin, one behind another.
-ghost use Rattle.std.specs.Prelude.{◌≡◌, ◌≢◌, ◌≤◌, ◌++◌, [], ◌∷◌, false, true, OnOk, OnErr, IfErr, IfSome, IsTrue};
+ghost use Rattle.std.specs.Prelude.{◌≡◌, ◌≢◌, ◌≤◌, ◌++◌, ◌+◌, [], ◌∷◌, length, take, false, true, OnOk, OnErr, IfErr, IfSome, IsTrue};
 ghost use Rattle.std.specs.List.{list_all};
 ghost use Rattle.rc_ids.specs.declared.names.NodeId.{NodeId as NodeName};
 ghost use Rattle.rc_runs.specs.Stored.{Place, begins_node};
@@ -90,6 +90,8 @@ pub(crate) fn begin_next<F: Farm, N: Node<Log<F::D>>>(
     ensures err { (run : Run) (p : Place) → run.node ≡ node.now → run.cluster ≡ cluster.now → p.lend_fails run.node ≡ false → IsStartOf p run (F.stands farm.old run.node)
         → IfErr result (λ fault. IfSome (F.stands farm.new run.node).told (λ t. IsKept t run.ended)
         → BeginRefused (F.faults farm.old) (F.faults farm.new) (begins_node p run.cluster run.node) fault) }
+    ensures more { OnOk result (length hosts.new.items ≡ length hosts.old.items + 1) }
+    ensures front { OnOk result (take (length hosts.old.items) hosts.new.items ≡ hosts.old.items) }
     ensures kept { OnErr result (hosts.new.items ≡ hosts.old.items) }
     ensures well { IsTrue (list_all (is_well (λ n. (N.seen n).stopped)) hosts.new.items) }
     ensures lent { OnOk result (F.is_lent farm.new node.now ≡ true) }

@@ -5,6 +5,7 @@ mod beginning;
 mod clients;
 mod commands;
 mod coords;
+mod dcs_begin;
 mod events;
 mod fault;
 mod gathering;

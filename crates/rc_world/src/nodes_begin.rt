@@ -1,5 +1,5 @@
 // A coordinator and a shard server of a world begin at their places.
-ghost use Rattle.std.specs.Prelude.{◌≡◌, ◌≢◌, ◌≤◌, ◌++◌, [], ◌∷◌, ℕ, List, false, true, length, OnOk, OnErr, IfErr, IfSome, IsTrue};
+ghost use Rattle.std.specs.Prelude.{◌≡◌, ◌≢◌, ◌≤◌, ◌++◌, ◌+◌, [], ◌∷◌, ℕ, List, false, true, length, take, OnOk, OnErr, IfErr, IfSome, IsTrue};
 ghost use Rattle.std.specs.List.{list_all};
 ghost use Rattle.rc_ids.specs.Cluster.{is_dc};
 ghost use Rattle.rc_ids.specs.declared.names.NodeId.{NodeId as NodeName};
@@ -50,6 +50,8 @@ pub(crate) fn begin_coord<F: Farm>(
         → OnOk result (AreGathered (views ⟦<Log<F::D> as Journal>⟧.state F.D.told F.D.content F.D.power) r p (nodes ++ Coordinator dc ∷ []) all.new.coords.items all.new.coord_logs.items all.new.shards.items all.new.shard_logs.items) }
     ensures err { (r : Runs) (p : Place) → r.cluster ≡ cluster.now → p.lend_fails (Coordinator dc) ≡ false → IsStartOf p (run_at r (Coordinator dc)) (F.stands farm.old (Coordinator dc))
         → IfErr result (λ fault. IfSome (F.stands farm.new (Coordinator dc)).told (λ t. IsKept t (r.ended (Coordinator dc))) → BeginRefused (F.faults farm.old) (F.faults farm.new) (begins_node p r.cluster (Coordinator dc)) fault) }
+    ensures more { OnOk result (length all.new.coords.items ≡ length all.old.coords.items + 1) }
+    ensures front { OnOk result (take (length all.old.coords.items) all.new.coords.items ≡ all.old.coords.items) }
     ensures kept { OnErr result (all.new.coords.items ≡ all.old.coords.items) }
     ensures rest { all.new.shards.items ≡ all.old.shards.items }
     ensures rest_logs { all.new.shard_logs.items ≡ all.old.shard_logs.items }
@@ -88,6 +90,8 @@ pub(crate) fn begin_shard<F: Farm>(
         → OnOk result (AreGathered (views ⟦<Log<F::D> as Journal>⟧.state F.D.told F.D.content F.D.power) r p (nodes ++ ShardServer dc shard ∷ []) all.new.coords.items all.new.coord_logs.items all.new.shards.items all.new.shard_logs.items) }
     ensures err { (r : Runs) (p : Place) → r.cluster ≡ cluster.now → p.lend_fails (ShardServer dc shard) ≡ false → IsStartOf p (run_at r (ShardServer dc shard)) (F.stands farm.old (ShardServer dc shard))
         → IfErr result (λ fault. IfSome (F.stands farm.new (ShardServer dc shard)).told (λ t. IsKept t (r.ended (ShardServer dc shard))) → BeginRefused (F.faults farm.old) (F.faults farm.new) (begins_node p r.cluster (ShardServer dc shard)) fault) }
+    ensures more { OnOk result (length all.new.shards.items ≡ length all.old.shards.items + 1) }
+    ensures front { OnOk result (take (length all.old.shards.items) all.new.shards.items ≡ all.old.shards.items) }
     ensures kept { OnErr result (all.new.shards.items ≡ all.old.shards.items) }
     ensures rest { all.new.coords.items ≡ all.old.coords.items }
     ensures rest_logs { all.new.coord_logs.items ≡ all.old.coord_logs.items }
