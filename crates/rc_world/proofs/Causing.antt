@@ -11,8 +11,8 @@ use Rattle.rc_runs.specs.Refusals.{wrong, begins, worn_out, most_transactions}
 use Rattle.rc_runs.specs.Session.{Session, Limited, disk_change, happens}
 use Rattle.rc_world.specs.declared.clients.Refused.{Refused}
 use Rattle.rc_world.specs.declared.clients.Refused.TheVariants as refusals
-use Rattle.rc_world.specs.declared.fault.WorldFault.{WorldFault}
-use Rattle.rc_world.specs.declared.fault.WorldFault.TheVariants.{NoMemory, Farm, Log, Limit, Naming}
+use Rattle.rc_begin.specs.declared.fault.WorldFault.{WorldFault}
+use Rattle.rc_begin.specs.declared.fault.WorldFault.TheVariants.{NoMemory, Farm, Log, Limit, Naming}
 use Rattle.rc_world.specs.Steps.{early_limit, event_limit}
 use Rattle.rc_world.specs.Limits.{LimitIs, RefusalIs, CauseIs}
 use Rattle.rc_world.specs.Refused.{ActRefused, StartRefused}

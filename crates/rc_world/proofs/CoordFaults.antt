@@ -17,8 +17,8 @@ use Rattle.rc_host.specs.Standing.{Standing}
 use Rattle.rc_host.specs.Hosts.{Sight, Run, IsHost}
 use Rattle.rc_host.specs.declared.host.Host.{Host}
 use Rattle.rc_node.specs.Acts.{coord_does}
-use Rattle.rc_world.specs.declared.fault.WorldFault.{WorldFault}
-use Rattle.rc_world.specs.declared.fault.WorldFault.TheVariants.{NoMemory, Farm, Log, Limit, Naming}
+use Rattle.rc_begin.specs.declared.fault.WorldFault.{WorldFault}
+use Rattle.rc_begin.specs.declared.fault.WorldFault.TheVariants.{NoMemory, Farm, Log, Limit, Naming}
 use Rattle.rc_world.specs.Steps.{IsDone, deed_change}
 use Rattle.rc_world.specs.Turns.{TurnRefused, Unturned, Stays, Lost}
 use Rattle.rc_world.specs.Refused.{ActRefused, Unacted, AsBefore, FarmFailed}

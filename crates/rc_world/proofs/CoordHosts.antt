@@ -23,10 +23,10 @@ use Rattle.rc_host.specs.Hosts.{Sight, IsHost, Went, course_in, standing_after, 
 use Rattle.rc_host.specs.declared.host.Host.{Host}
 use Rattle.rc_host.specs.declared.host.Course.{Course}
 use Rattle.rc_host.specs.declared.host.Course.TheVariants.{Goes, Stops}
-use Rattle.rc_world.specs.Places.{coord_name, AreAt}
-use Rattle.rc_world.specs.Hosts.{Runs, run_at, IsCoord}
+use Rattle.rc_begin.specs.Places.{coord_name, AreAt}
+use Rattle.rc_begin.specs.Hosts.{Runs, run_at, IsCoord}
 use Rattle.rc_world.specs.Steps.{EventActed, IsDone}
-use Rattle.rc_world.proofs.Lists.{one_changes, coord_named}
+use Rattle.rc_begin.proofs.Lists.{one_changes, coord_named}
 use Rattle.rc_world.proofs.Courses.{course_for, device_for, sends_left, record_left, lines_left}
 use Rattle.rc_world.proofs.CoordActs.{coord_left, coord_acted, does}
 

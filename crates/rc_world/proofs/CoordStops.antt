@@ -27,14 +27,14 @@ use Rattle.rc_host.specs.declared.host.Host.{Host}
 use Rattle.rc_host.specs.declared.restarts.RestartFault.{RestartFault}
 use Rattle.rc_host.specs.declared.restarts.RestartFault.TheVariants.{NoMemory, DiskFailed, Refused}
 use Rattle.rc_host.specs.Restarts.{HasRejoined, HasNotRejoined}
-use Rattle.rc_world.specs.declared.fault.WorldFault.{WorldFault}
-use Rattle.rc_world.specs.Places.{coord_name, AreAt}
-use Rattle.rc_world.specs.Hosts.{Runs, run_at, IsCoord, CoordsAreTold}
+use Rattle.rc_begin.specs.declared.fault.WorldFault.{WorldFault}
+use Rattle.rc_begin.specs.Places.{coord_name, AreAt}
+use Rattle.rc_begin.specs.Hosts.{Runs, run_at, IsCoord, CoordsAreTold}
 use Rattle.rc_world.specs.Steps.{EventActed}
 use Rattle.rc_world.specs.Turns.{start_fault}
 use Rattle.rc_world.specs.Refused.{StillDown, StartRefused}
 use Rattle.rc_world.specs.CoordActed.{CoordsActed}
-use Rattle.rc_world.proofs.Lists.{set_same, set_at, stands, one_changes}
+use Rattle.rc_begin.proofs.Lists.{set_same, set_at, stands, one_changes}
 use Rattle.rc_world.proofs.CoordActs as acts
 use Rattle.rc_world.proofs.CoordActs.{coord_here}
 use Rattle.rc_world.proofs.ShardTurns.{up_is}

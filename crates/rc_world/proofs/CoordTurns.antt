@@ -28,17 +28,17 @@ use Rattle.rc_host.specs.declared.host.Course.TheVariants.{Goes, Stops}
 use Rattle.rc_grammar.specs.Acts.{HasNodeCause}
 use Rattle.rc_grammar.specs.Coordinators.{HasCoordDurable, HasCoordVolatile, HasCoordNode, CoordSpeaks}
 use Rattle.rc_grammar.specs.Worlds.{HasWorld}
-use Rattle.rc_world.specs.declared.fault.WorldFault.{WorldFault}
-use Rattle.rc_world.specs.declared.fault.WorldFault.TheVariants.{NoMemory}
+use Rattle.rc_begin.specs.declared.fault.WorldFault.{WorldFault}
+use Rattle.rc_begin.specs.declared.fault.WorldFault.TheVariants.{NoMemory}
 use Rattle.rc_world.specs.declared.votes.Vote.{Vote}
-use Rattle.rc_world.specs.Places.{coord_name, AreAt}
-use Rattle.rc_world.specs.Hosts.{Runs, run_at, IsCoord, CoordsAreTold}
+use Rattle.rc_begin.specs.Places.{coord_name, AreAt}
+use Rattle.rc_begin.specs.Hosts.{Runs, run_at, IsCoord, CoordsAreTold}
 use Rattle.rc_world.specs.Steps.{EventActed, IsDone}
 use Rattle.rc_world.specs.Turns.{TurnRefused, lines_of}
 use Rattle.rc_world.specs.Votes.{kept_by, vote_in}
 use Rattle.rc_world.specs.CoordActed.{Voted, CoordsActed}
 use Rattle.rc_world.specs.Refused.{ActRefused, AsBefore}
-use Rattle.rc_world.proofs.Lists.{set_same, set_at, stands, all_at, all_before, one_changes}
+use Rattle.rc_begin.proofs.Lists.{set_same, set_at, stands, all_at, all_before, one_changes}
 use Rattle.rc_world.proofs.Courses.{record_left, lines_left, sends_left}
 use Rattle.rc_world.proofs.ClientActs.{idles}
 use Rattle.rc_world.proofs.CoordActs.{coord_left, coord_here, does}

@@ -1,4 +1,3 @@
-pub mod Lists
 pub mod Courses
 pub mod CoordActs
 pub mod ShardActs
@@ -33,10 +32,5 @@ pub mod CoordStops
 pub mod ShardStops
 pub mod Weighing
 pub mod Powered
-pub mod LogSteps
-pub mod LogOrders
-pub mod StartFacts
-pub mod Gathered
-pub mod GatheredMore
 pub mod Causing
-pub mod Serving
+pub mod ReadsLeft

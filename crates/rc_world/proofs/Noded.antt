@@ -18,7 +18,7 @@ use Rattle.rc_runs.specs.World.{Idle, deed, actor, with_coord}
 use Rattle.rc_runs.specs.Refusals.{wrong, begins}
 use Rattle.rc_runs.specs.Session.{Session}
 use Rattle.rc_host.specs.declared.host.Host.{Host}
-use Rattle.rc_world.specs.Hosts.{Views, Runs}
+use Rattle.rc_begin.specs.Hosts.{Views, Runs}
 use Rattle.rc_world.specs.Acted.{ShardsActed, with_shards}
 use Rattle.rc_world.specs.Steps.{EventActed, IsDone, event_limit}
 use Rattle.rc_world.specs.Worlds.{Parts, IsWorld, HasActed}

@@ -14,7 +14,7 @@ use Rattle.rc_order.specs.Orders.{Order, IsAsBefore, vote_of}
 use Rattle.rc_order.specs.Counts.{IsOrderOf, HasWritten, CountLaws, log_at}
 use Rattle.rc_world.specs.declared.votes.Vote.{Vote}
 use Rattle.rc_world.specs.Votes.{vote_in}
-use Rattle.rc_world.proofs.Lists.{set_at, set_other, same_or}
+use Rattle.rc_begin.proofs.Lists.{set_at, set_other, same_or}
 
 module _ (laws : (c : Layout) (coords now : List CoordNode) (o : Order) → CountLaws c coords now o) where
   -- only room was made

@@ -22,19 +22,19 @@ use Rattle.rc_runs.specs.Devices.{Device, opened_once}
 use Rattle.rc_runs.specs.Session.{Session, no_device, device_in, device_of, with_device, change_on, with_change}
 use Rattle.rc_order.specs.Orders.{Order, IsAsBefore}
 use Rattle.rc_order.specs.Counts.{CountLaws}
-use Rattle.rc_host.specs.Hosts.{Sight, CanRead}
+use Rattle.rc_host.specs.Hosts.{Sight}
 use Rattle.rc_host.specs.Disks.{told_by}
 use Rattle.rc_host.specs.declared.host.Host.{Host}
 use Rattle.rc_host.specs.declared.host.Host.TheVariants as hosts
 use Rattle.rc_world.specs.declared.world.Sending.{Sending}
-use Rattle.rc_world.specs.declared.fault.WorldFault.{WorldFault}
+use Rattle.rc_begin.specs.declared.fault.WorldFault.{WorldFault}
 use Rattle.rc_world.specs.Noted.{Notes}
-use Rattle.rc_world.specs.Hosts.{Views, Runs, CanBeRead, CoordsAreTold, ShardsAreTold}
-use Rattle.rc_world.specs.Places.{AllAt}
+use Rattle.rc_begin.specs.Hosts.{Views, Runs, CoordsAreTold, ShardsAreTold}
+use Rattle.rc_begin.specs.Places.{AllAt}
 use Rattle.rc_world.specs.CoordActed.{CoordsActed}
 use Rattle.rc_world.specs.Steps.{EventActed, event_limit}
 use Rattle.rc_world.specs.Mail.{IsMail}
-use Rattle.rc_world.specs.Worlds.{Parts, IsWorld, HasActed, IsCarried, KeepsCarried, KeepsParties, AreTold, CanAllBeRead}
+use Rattle.rc_world.specs.Worlds.{Parts, IsWorld, HasActed, IsCarried, KeepsCarried, KeepsParties, AreTold}
 use Rattle.rc_world.proofs.Ordering.{none_noted}
 use Rattle.rc_world.proofs.Noded.{coords_did}
 use Rattle.rc_world.proofs.Told.{early}
@@ -153,30 +153,10 @@ carried_along old new z keeps is = record {
   grammar = is.grammar;
 }
 
--- READS
-can_read : {N J D : Type 0} (s : Sight N J D) (h : Host N J D) → IfSome (told_by s h) (λ t. t.reads.made < 2 ^ 64 - 1) → CanRead s h
-can_read s (hosts.Up node) can = can
-can_read s (hosts.Opened journal blobs) can = tt
-can_read s (hosts.Down disk) can = tt
-can_read s hosts.Lent can = tt
-
-module _ {C S J D : Type 0} (v : Views C S J D) (w : Parts (Host C J D) (Host S J D)) (can : CanAllBeRead v w) where
-  pub coords_can_read : AllAt (λ _ h. CanRead v.coords h) w.coords
-  coords_can_read = λ place h at. can_read v.coords h (can.coords place h at)
-
-  pub shards_can_read : AllAt (λ _ h. CanRead v.shards h) w.shards
-  shards_can_read = λ place h at. can_read v.shards h (can.shards place h at)
-
 -- AMONG THE PARTIES that do not change
 module _ {C S J D : Type 0} (v : Views C S J D) (old new : Parts (Host C J D) (Host S J D)) (keeps : KeepsParties old new) where
   pub told_back : (r : Runs) → AreTold v r new → AreTold v r old
   told_back r told = record {
     coords = subst (λ (hs : List (Host C J D)). CoordsAreTold v.coords r hs) keeps.coords told.coords;
     shards = subst (λ (hs : List (Host S J D)). ShardsAreTold v.shards r hs) keeps.shards told.shards;
-  }
-
-  pub can_along : CanAllBeRead v old → CanAllBeRead v new
-  can_along can = record {
-    coords = subst (λ (hs : List (Host C J D)). CanBeRead v.coords hs) (sym keeps.coords) can.coords;
-    shards = subst (λ (hs : List (Host S J D)). CanBeRead v.shards hs) (sym keeps.shards) can.shards;
   }

@@ -16,7 +16,7 @@ use Rattle.rc_runs.specs.Refusals.{worn_out}
 use Rattle.rc_runs.specs.Devices.{Device, powered, armed, opened_once}
 use Rattle.rc_runs.specs.Session.{Session, DiskChange, no_device, device_in, device_of, with_device, change_on, disk_change, with_change}
 use Rattle.rc_world.specs.Steps.{EventActed, with_disks, deed_change}
-use Rattle.rc_world.proofs.Lists.{set_same}
+use Rattle.rc_begin.proofs.Lists.{set_same}
 use Rattle.rc_world.proofs.Courses.{course_for, device_for, sends_left, lines_left}
 
 -- what an act leaves of the shard server

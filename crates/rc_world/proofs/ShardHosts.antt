@@ -24,10 +24,10 @@ use Rattle.rc_host.specs.Hosts.{Sight, IsHost, Went, course_in, standing_after, 
 use Rattle.rc_host.specs.declared.host.Host.{Host}
 use Rattle.rc_host.specs.declared.host.Course.{Course}
 use Rattle.rc_host.specs.declared.host.Course.TheVariants.{Goes, Stops}
-use Rattle.rc_world.specs.Places.{shard_name, AreAt}
-use Rattle.rc_world.specs.Hosts.{Runs, run_at, IsShard}
+use Rattle.rc_begin.specs.Places.{shard_name, AreAt}
+use Rattle.rc_begin.specs.Hosts.{Runs, run_at, IsShard}
 use Rattle.rc_world.specs.Steps.{EventActed, IsDone}
-use Rattle.rc_world.proofs.Lists.{one_changes}
+use Rattle.rc_begin.proofs.Lists.{one_changes}
 use Rattle.rc_world.proofs.Courses.{course_for, device_for, sends_left, lines_left}
 use Rattle.rc_world.proofs.ShardActs.{shard_left, shard_acted, does}
 

@@ -27,13 +27,13 @@ use Rattle.rc_host.specs.declared.host.Host.{Host}
 use Rattle.rc_host.specs.declared.restarts.RestartFault.{RestartFault}
 use Rattle.rc_host.specs.declared.restarts.RestartFault.TheVariants.{NoMemory, DiskFailed, Refused}
 use Rattle.rc_host.specs.Restarts.{HasRejoined, HasNotRejoined}
-use Rattle.rc_world.specs.Places.{shard_name, AreAt}
-use Rattle.rc_world.specs.Hosts.{Runs, run_at, IsShard, ShardsAreTold}
+use Rattle.rc_begin.specs.Places.{shard_name, AreAt}
+use Rattle.rc_begin.specs.Hosts.{Runs, run_at, IsShard, ShardsAreTold}
 use Rattle.rc_world.specs.Steps.{EventActed}
 use Rattle.rc_world.specs.Turns.{start_fault}
 use Rattle.rc_world.specs.Refused.{StillDown, StartRefused}
 use Rattle.rc_world.specs.Acted.{ShardsActed, with_shards}
-use Rattle.rc_world.proofs.Lists.{set_same, set_at, stands, one_changes}
+use Rattle.rc_begin.proofs.Lists.{set_same, set_at, stands, one_changes}
 use Rattle.rc_world.proofs.ShardActs as acts
 use Rattle.rc_world.proofs.ShardActs.{shard_here}
 use Rattle.rc_world.proofs.ShardTurns.{up_is}

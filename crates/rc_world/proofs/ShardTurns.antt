@@ -28,15 +28,15 @@ use Rattle.rc_host.specs.declared.host.Course.TheVariants.{Goes, Stops}
 use Rattle.rc_grammar.specs.Acts.{HasNodeCause}
 use Rattle.rc_grammar.specs.Shards.{HasShardDurable, HasShardVolatile, HasShardNode, ShardSpeaks}
 use Rattle.rc_grammar.specs.Worlds.{HasWorld}
-use Rattle.rc_world.specs.Places.{shard_name, AreAt}
-use Rattle.rc_world.specs.Hosts.{Runs, run_at, IsShard, ShardsAreTold}
+use Rattle.rc_begin.specs.Places.{shard_name, AreAt}
+use Rattle.rc_begin.specs.Hosts.{Runs, run_at, IsShard, ShardsAreTold}
 use Rattle.rc_world.specs.Steps.{EventActed, IsDone}
 use Rattle.rc_world.specs.Turns.{Turned, TurnRefused, lines_of}
 use Rattle.rc_world.specs.Refused.{ActRefused, AsBefore}
-use Rattle.rc_world.specs.declared.fault.WorldFault.{WorldFault}
-use Rattle.rc_world.specs.declared.fault.WorldFault.TheVariants.{NoMemory}
+use Rattle.rc_begin.specs.declared.fault.WorldFault.{WorldFault}
+use Rattle.rc_begin.specs.declared.fault.WorldFault.TheVariants.{NoMemory}
 use Rattle.rc_world.specs.Acted.{ShardsActed, with_shards}
-use Rattle.rc_world.proofs.Lists.{set_same, set_at, stands, all_at, all_before, one_changes}
+use Rattle.rc_begin.proofs.Lists.{set_same, set_at, stands, all_at, all_before, one_changes}
 use Rattle.rc_world.proofs.Courses.{course_for, lines_left, sends_left}
 use Rattle.rc_world.proofs.ClientActs.{idles}
 use Rattle.rc_world.proofs.ShardActs.{shard_left, shard_here, does}

@@ -12,10 +12,10 @@ use Rattle.rc_host.specs.AnyNode.{coord_back, shard_back}
 use Rattle.rc_host.specs.Standing.{coord_standing, shard_standing}
 use Rattle.rc_host.specs.Hosts.{is_up}
 use Rattle.rc_host.specs.declared.host.Host.{Host}
-use Rattle.rc_world.specs.Places.{AreAt, coord_name, shard_name}
-use Rattle.rc_world.specs.Hosts.{Views, Runs, run_at, IsCoord, IsShard, is_up_at}
+use Rattle.rc_begin.specs.Places.{AreAt, coord_name, shard_name}
+use Rattle.rc_begin.specs.Hosts.{Views, Runs, run_at, IsCoord, IsShard, is_up_at}
 use Rattle.rc_world.specs.Worlds.{Parts, AreParties}
-use Rattle.rc_world.proofs.Lists.{stands}
+use Rattle.rc_begin.proofs.Lists.{stands}
 use Rattle.rc_world.proofs.ShardTurns.{up_is}
 
 -- each node stands as its host does

@@ -19,7 +19,7 @@ use Rattle.rc_runs.specs.Session.{Session, disk_change, happens, Limited}
 use Rattle.std.specs.Prelude.{Err}
 use Rattle.rc_host.specs.declared.host.Host.{Host}
 use Rattle.rc_grammar.specs.Worlds.{HasWorld}
-use Rattle.rc_world.specs.Hosts.{Views, Runs}
+use Rattle.rc_begin.specs.Hosts.{Views, Runs}
 use Rattle.rc_world.specs.Mail.{IsMail, letters_of, too_much}
 use Rattle.rc_world.specs.Steps.{early_limit, sent_limit, world_after, session_after}
 use Rattle.rc_world.specs.Worlds.{Parts, IsCarried, HasActed, HasStepped}

@@ -8,7 +8,7 @@ use Rattle.rc_ids.specs.declared.sends.Letter.{Letter}
 use Rattle.rc_msg.specs.Outboxes.{Outbox, new_outbox}
 use Rattle.rc_msg.specs.Posts.{posted_all}
 use Rattle.rc_protocol.specs.Nodes.{CoordNode, ShardNode}
-use Rattle.rc_world.specs.Places.{AreAt}
+use Rattle.rc_begin.specs.Places.{AreAt}
 use Rattle.rc_report.specs.declared.line.Line.{Line}
 use Rattle.rc_report.specs.declared.fault.Which.TheVariants.{Transactions}
 use Rattle.rc_runs.specs.declared.event.Event.{Event}
@@ -23,7 +23,7 @@ use Rattle.rc_body.specs.declared.entry.Entry.{Entry}
 use Rattle.rc_order.specs.Orders.{Order}
 use Rattle.rc_order.specs.Counts.{IsOrderOf}
 use Rattle.rc_host.specs.declared.host.Host.{Host}
-use Rattle.rc_world.specs.Hosts.{Views, Runs, IsCoord, IsShard}
+use Rattle.rc_begin.specs.Hosts.{Views, Runs, IsCoord, IsShard}
 use Rattle.rc_world.specs.Clients.{IsRoster, command, told, scene, Did}
 use Rattle.rc_world.specs.Steps.{EventActed, IsDone, early_limit, event_limit}
 use Rattle.rc_world.specs.Worlds.{Parts, AreParties, IsWorld, HasActed}

@@ -11,7 +11,7 @@ use Rattle.rc_host.specs.declared.host.Host.{Host}
 use Rattle.rc_host.specs.declared.host.Course.{Course}
 use Rattle.rc_host.specs.declared.host.HostFault.{HostFault}
 use Rattle.rc_host.specs.declared.host.HostFault.TheVariants.{NoMemory, BallotsSpent, DiskFailed, Damaged, Lost}
-use Rattle.rc_world.specs.declared.fault.WorldFault.{WorldFault}
+use Rattle.rc_begin.specs.declared.fault.WorldFault.{WorldFault}
 use Rattle.rc_world.specs.Turns as turns
 use Rattle.rc_world.specs.Turns.{Turned, TurnRefused, Unturned, lines_of, fault_of}
 

@@ -5,7 +5,7 @@ use Rattle.std.specs.List.{list_all}
 use Rattle.rc_host.specs.Hosts.{IfUp, IsThere, is_up}
 use Rattle.rc_host.specs.declared.host.Host.{Host}
 use Rattle.rc_host.specs.declared.host.Host.TheVariants.{Up, Opened, Down, Lent}
-use Rattle.rc_world.specs.Wells.{is_well}
+use Rattle.rc_begin.specs.Wells.{is_well}
 
 goes : (b : Bool) → IsTrue (not b) → b ≡ false
 goes true is = absurd (cc)

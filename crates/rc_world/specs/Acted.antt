@@ -13,8 +13,8 @@ use Rattle.rc_runs.specs.Devices.{Device}
 use Rattle.rc_runs.specs.Session.{Session}
 use Rattle.rc_host.specs.Hosts.{Sight}
 use Rattle.rc_host.specs.declared.host.Host.{Host}
-use Rattle.rc_world.specs.Places.{AreAt}
-use Rattle.rc_world.specs.Hosts.{Runs, IsShard}
+use Rattle.rc_begin.specs.Places.{AreAt}
+use Rattle.rc_begin.specs.Hosts.{Runs, IsShard}
 use Rattle.rc_world.specs.Steps.{EventActed}
 
 -- the parties with these shard servers

@@ -18,8 +18,8 @@ use Rattle.rc_host.specs.Hosts.{Sight, Run}
 use Rattle.rc_host.specs.declared.host.Host.{Host}
 use Rattle.rc_host.specs.declared.host.Course.{Course}
 use Rattle.rc_world.specs.declared.votes.Vote.{Vote}
-use Rattle.rc_world.specs.Places.{AreAt}
-use Rattle.rc_world.specs.Hosts.{Runs, IsCoord}
+use Rattle.rc_begin.specs.Places.{AreAt}
+use Rattle.rc_begin.specs.Hosts.{Runs, IsCoord}
 use Rattle.rc_world.specs.Steps.{EventActed}
 use Rattle.rc_world.specs.Turns.{Turned}
 use Rattle.rc_world.specs.Votes.{kept_by, vote_in}

@@ -1,15 +1,12 @@
 -- What the contracts of this crate and of those above it cite.
 pub mod Steps
 pub mod Votes
-pub mod Places
 pub mod Mail
 pub mod Clients
 pub mod Weights
 pub mod OneClient
-pub mod Hosts
 pub mod Turns
 pub mod Acted
-pub mod Wells
 pub mod Worlds
 pub mod Words
 pub mod Limits
@@ -17,6 +14,3 @@ pub mod Refused
 pub mod CoordActed
 pub mod Noted
 pub mod Asked
-pub mod Logs
-pub mod Beginnings
-pub mod Gatherings

@@ -3,8 +3,8 @@ use Rattle.std.specs.Prelude.{◌≡◌, None, Some, Err}
 use Rattle.rc_runs.specs.declared.event.Event.{Event}
 use Rattle.rc_runs.specs.Refusals.{wrong}
 use Rattle.rc_runs.specs.Session.{Session, Misnamed, Limited, disk_change, with_change, happens}
-use Rattle.rc_world.specs.declared.fault.WorldFault.{WorldFault}
-use Rattle.rc_world.specs.declared.fault.WorldFault.TheVariants.{NoMemory, Farm, Log, Limit, Naming}
+use Rattle.rc_begin.specs.declared.fault.WorldFault.{WorldFault}
+use Rattle.rc_begin.specs.declared.fault.WorldFault.TheVariants.{NoMemory, Farm, Log, Limit, Naming}
 
 -- the fault is the limit that the event meets
 abbrev pub LimitIs : Session → Event → WorldFault → Type 0

@@ -6,8 +6,8 @@ use Rattle.rc_runs.specs.declared.event.Event.{Event}
 use Rattle.rc_runs.specs.World.{Stops, course_deed, sends_of}
 use Rattle.rc_runs.specs.Refusals.{worn_out}
 use Rattle.rc_runs.specs.Session.{Session, disk_change, with_change}
-use Rattle.rc_world.specs.declared.fault.WorldFault.{WorldFault}
-use Rattle.rc_world.specs.declared.fault.WorldFault.TheVariants.{NoMemory, Farm, Log, Limit, Naming}
+use Rattle.rc_begin.specs.declared.fault.WorldFault.{WorldFault}
+use Rattle.rc_begin.specs.declared.fault.WorldFault.TheVariants.{NoMemory, Farm, Log, Limit, Naming}
 
 -- for want of memory: all is as before, or the node stopped inside the event and its log could not be read
 pub data Unacted (z : Session) (e : Event) (Before : Type 0) : Type 0 where

@@ -17,8 +17,8 @@ use Rattle.rc_host.specs.declared.host.HostFault.{HostFault}
 use Rattle.rc_host.specs.declared.host.HostFault.TheVariants as faults
 use Rattle.rc_host.specs.declared.restarts.RestartFault.{RestartFault}
 use Rattle.rc_host.specs.declared.restarts.RestartFault.TheVariants as restart_faults
-use Rattle.rc_world.specs.declared.fault.WorldFault.{WorldFault}
-use Rattle.rc_world.specs.declared.fault.WorldFault.TheVariants.{NoMemory, Farm, Log, Limit, Naming}
+use Rattle.rc_begin.specs.declared.fault.WorldFault.{WorldFault}
+use Rattle.rc_begin.specs.declared.fault.WorldFault.TheVariants.{NoMemory, Farm, Log, Limit, Naming}
 
 abbrev pub lines_of : NodeId → Course → List Line
 lines_of node Goes = []

@@ -16,7 +16,7 @@ use Rattle.rc_grammar.specs.Worlds.{HasWorld}
 use Rattle.rc_order.specs.Orders.{Order}
 use Rattle.rc_order.specs.Counts.{IsOrderOf}
 use Rattle.rc_world.specs.Clients.{Roster, IsRoster}
-use Rattle.rc_world.specs.Hosts.{Views, Runs, HostsAre, CoordsAreTold, ShardsAreTold, CanBeRead}
+use Rattle.rc_begin.specs.Hosts.{Views, Runs, HostsAre, CoordsAreTold, ShardsAreTold}
 use Rattle.rc_world.specs.Mail.{IsMail, letters_of}
 use Rattle.rc_world.specs.Steps.{EventActed, Stepped, early_limit}
 
@@ -91,8 +91,3 @@ pub record KeepsParties {C S : Type 0} (old new : Parts C S) : Type 0 where
 pub record AreTold {C S J D : Type 0} (v : Views C S J D) (r : Runs) (w : Parts (Host C J D) (Host S J D)) : Type 0 where
   pub coords : CoordsAreTold v.coords r w.coords
   pub shards : ShardsAreTold v.shards r w.shards
-
--- no disk's count of reads is full
-pub record CanAllBeRead {C S J D : Type 0} (v : Views C S J D) (w : Parts (Host C J D) (Host S J D)) : Type 0 where
-  pub coords : CanBeRead v.coords w.coords
-  pub shards : CanBeRead v.shards w.shards

@@ -7,12 +7,13 @@ ghost use Rattle.rc_protocol.specs.Acts.{ClientCause, Hears};
 ghost use Rattle.rc_runs.specs.declared.event.Event.{Event as AnyEvent};
 ghost use Rattle.rc_runs.specs.Refusals.{wrong, begins};
 ghost use Rattle.rc_runs.specs.World.{deed, client_does, actor};
-ghost use Rattle.rc_world.specs.Words.{parts_of, views};
+ghost use Rattle.rc_begin.specs.Hosts.{views};
+ghost use Rattle.rc_world.specs.Words.{parts_of};
 ghost use Rattle.rc_world.specs.Clients.{command};
-ghost use Rattle.rc_world.specs.Hosts.{Runs};
+ghost use Rattle.rc_begin.specs.Hosts.{Runs};
 ghost use Rattle.rc_world.specs.Steps.{IsDone, event_limit};
 ghost use Rattle.rc_world.specs.Limits.{CauseIs};
-ghost use Rattle.rc_world.specs.Worlds.{IsWorld, HasActed, KeepsCarried, AreTold, CanAllBeRead};
+ghost use Rattle.rc_world.specs.Worlds.{IsWorld, HasActed, KeepsCarried, AreTold};
 
 use crate::WorldFault;
 use crate::clients::Refused;
@@ -49,7 +50,7 @@ impl<F: Farm> World<F> {
         ensures err { (r : Runs) (z : Session) → IsWorld (views ⟦<Log<F::D> as Journal>⟧.state F.D.told F.D.content F.D.power) r (parts_of self.old) z
             → IfErr result (CauseIs z (Begin tx)) }
         ensures carried { KeepsCarried (parts_of self.old) (parts_of self.new) }
-        ensures grew { (r : Runs) → CanAllBeRead (views ⟦<Log<F::D> as Journal>⟧.state F.D.told F.D.content F.D.power) (parts_of self.old) → AreTold (views ⟦<Log<F::D> as Journal>⟧.state F.D.told F.D.content F.D.power) r (parts_of self.new) → AreTold (views ⟦<Log<F::D> as Journal>⟧.state F.D.told F.D.content F.D.power) r (parts_of self.old) }
+        ensures grew { (r : Runs) → AreTold (views ⟦<Log<F::D> as Journal>⟧.state F.D.told F.D.content F.D.power) r (parts_of self.new) → AreTold (views ⟦<Log<F::D> as Journal>⟧.state F.D.told F.D.content F.D.power) r (parts_of self.old) }
     {
         if self.clients.is_begun(tx) {
             return Err(WorldFault::Naming(Wrong::BegunTwice(tx)));
@@ -78,7 +79,7 @@ impl<F: Farm> World<F> {
         ensures err { (r : Runs) (z : Session) (cause : ClientCause) → IsWorld (views ⟦<Log<F::D> as Journal>⟧.state F.D.told F.D.content F.D.power) r (parts_of self.old) z → command event.now ≡ Some (tx, cause)
             → IfErr result (CauseIs z event.now) }
         ensures carried { KeepsCarried (parts_of self.old) (parts_of self.new) }
-        ensures grew { (r : Runs) → CanAllBeRead (views ⟦<Log<F::D> as Journal>⟧.state F.D.told F.D.content F.D.power) (parts_of self.old) → AreTold (views ⟦<Log<F::D> as Journal>⟧.state F.D.told F.D.content F.D.power) r (parts_of self.new) → AreTold (views ⟦<Log<F::D> as Journal>⟧.state F.D.told F.D.content F.D.power) r (parts_of self.old) }
+        ensures grew { (r : Runs) → AreTold (views ⟦<Log<F::D> as Journal>⟧.state F.D.told F.D.content F.D.power) r (parts_of self.new) → AreTold (views ⟦<Log<F::D> as Journal>⟧.state F.D.told F.D.content F.D.power) r (parts_of self.old) }
     {
         let mut out = Outbox::new(self.alloc, Party::Client(tx));
         match self.clients.obey(&self.cluster, event, &mut out, lines) {
@@ -112,7 +113,7 @@ impl<F: Farm> World<F> {
             → IsDone z e → deed z.world.parties z.world.sent e ≡ client_does z.world.parties tx (Hears msg.now) → actor z.world.sent e ≡ ClientParty tx → wrong z.world e ≡ None → begins e ≡ false
             → IfErr result (CauseIs z e) }
         ensures carried { KeepsCarried (parts_of self.old) (parts_of self.new) }
-        ensures grew { (r : Runs) → CanAllBeRead (views ⟦<Log<F::D> as Journal>⟧.state F.D.told F.D.content F.D.power) (parts_of self.old) → AreTold (views ⟦<Log<F::D> as Journal>⟧.state F.D.told F.D.content F.D.power) r (parts_of self.new) → AreTold (views ⟦<Log<F::D> as Journal>⟧.state F.D.told F.D.content F.D.power) r (parts_of self.old) }
+        ensures grew { (r : Runs) → AreTold (views ⟦<Log<F::D> as Journal>⟧.state F.D.told F.D.content F.D.power) r (parts_of self.new) → AreTold (views ⟦<Log<F::D> as Journal>⟧.state F.D.told F.D.content F.D.power) r (parts_of self.old) }
     {
         let mut out = Outbox::new(self.alloc, Party::Client(tx));
         match self.clients.hear(&self.cluster, tx, msg, &mut out, lines) {

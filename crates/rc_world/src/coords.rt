@@ -15,14 +15,14 @@ ghost use Rattle.rc_runs.specs.World.{deed, coord_does};
 ghost use Rattle.rc_host.specs.AnyNode.{OfCoord, OfCoordNow, coord_back, coord_seen, node_act};
 ghost use Rattle.rc_host.specs.Causes.{cause_of};
 ghost use Rattle.rc_host.specs.Standing.{coord_standing};
-ghost use Rattle.rc_host.specs.Hosts.{CanRead, HasReadsLeft, IfUp, IsHost, IsThere, IsToldBy, Run, count_in, is_up, sight};
+ghost use Rattle.rc_host.specs.Hosts.{HasReadsLeft, IfUp, IsHost, IsThere, IsToldBy, Run, count_in, is_up, sight};
 ghost use Rattle.rc_host.specs.declared.host.Course.TheVariants.{Stops};
 ghost use Rattle.rc_grammar.specs.Acts.{HasNodeCause};
 ghost use Rattle.rc_grammar.specs.Worlds.{HasWorld};
-ghost use Rattle.rc_world.specs.declared.fault.WorldFault.TheVariants.{NoMemory as OutOfMemory};
-ghost use Rattle.rc_world.specs.Places.{coord_name, AreAt, AllAt};
-ghost use Rattle.rc_world.specs.Wells.{is_well};
-ghost use Rattle.rc_world.specs.Hosts.{Runs, IsCoord, CoordsAreTold, HaveReadsLeft};
+ghost use Rattle.rc_begin.specs.declared.fault.WorldFault.TheVariants.{NoMemory as OutOfMemory};
+ghost use Rattle.rc_begin.specs.Places.{coord_name, AreAt, AllAt};
+ghost use Rattle.rc_begin.specs.Wells.{is_well};
+ghost use Rattle.rc_begin.specs.Hosts.{Runs, IsCoord, CoordsAreTold, HaveReadsLeft};
 ghost use Rattle.rc_world.specs.Steps.{IsDone};
 ghost use Rattle.rc_world.specs.Turns.{TurnRefused};
 ghost use Rattle.rc_world.specs.Votes.{votes_on, vote_if_up, vote_if_opened, vote_behind};
@@ -32,7 +32,7 @@ ghost use Rattle.rc_world.specs.Refused.{ActRefused};
 use crate::WorldFault;
 use crate::turns::turn;
 use crate::votes::{Vote, vote_at_end, vote_since, voted_on};
-use rc_coord::Coord;
+use rc_begin::CoordHost;
 use rc_disk::Disk;
 use rc_grammar::coords_speak;
 use rc_host::{Cause, Course, Host};
@@ -42,9 +42,6 @@ use rc_msg::Outbox;
 use rc_record::record_laws;
 use rc_report::Lines;
 use std::alloc::Global;
-
-/// A coordinator on its host.
-pub(crate) type CoordHost<D> = Host<Coord<Log<D>>, Log<D>, D>;
 
 /// How many records a coordinator that is up has in its journal.
 fn count_of<D: Disk>(host: &CoordHost<D>) -> u64
@@ -114,7 +111,7 @@ fn host_acts<D: Disk>(
         → IsHost (sight coord_seen ⟦<Log<D> as Journal>⟧.state D.told D.content D.power) (coord_back run.node run.cluster) run host.old (coord_standing x) d → HasReadsLeft run d
         → let act = node_act run.cluster run.node (OfCoord x.durable) (OfCoordNow x.volatile) (cause_of cause.now) in IfSome act.logs HasRecord → IsToldBy (sight coord_seen ⟦<Log<D> as Journal>⟧.state D.told D.content D.power) host.new run.ended
         → IfErr result (λ fault. TurnRefused (sight coord_seen ⟦<Log<D> as Journal>⟧.state D.told D.content D.power) (coord_back run.node run.cluster) run fault host.new (coord_standing x) d act) }
-    ensures grew { (ended : Told) → CanRead (sight coord_seen ⟦<Log<D> as Journal>⟧.state D.told D.content D.power) host.old → IsToldBy (sight coord_seen ⟦<Log<D> as Journal>⟧.state D.told D.content D.power) host.new ended → IsToldBy (sight coord_seen ⟦<Log<D> as Journal>⟧.state D.told D.content D.power) host.old ended }
+    ensures grew { (ended : Told) → IsToldBy (sight coord_seen ⟦<Log<D> as Journal>⟧.state D.told D.content D.power) host.new ended → IsToldBy (sight coord_seen ⟦<Log<D> as Journal>⟧.state D.told D.content D.power) host.old ended }
     ensures idle { is_up host.old ≡ false → (host.new ≡ host.old) × (lines.new ≡ []) × IfOk result (λ done. (done.0 ≡ new_outbox (NodeParty node.now)) × (done.1 ≡ None)) × IfErr result (λ fault. fault ≡ OutOfMemory) }
 {
     record_laws();
@@ -150,7 +147,7 @@ pub(crate) fn coord_acts<D: Disk>(
         → AreAt (IsCoord (sight coord_seen ⟦<Log<D> as Journal>⟧.state D.told D.content D.power) r) coords.old.items z.world.parties.coords z.coords → IsDone z e → deed z.world.parties z.world.sent e ≡ coord_does z.world.parties dc (cause_of cause.now)
         → HasNodeCause (cause_of cause.now) → HaveReadsLeft r coord_name z.coords → CoordsAreTold (sight coord_seen ⟦<Log<D> as Journal>⟧.state D.told D.content D.power) r coords.new.items
         → IfErr result (λ fault. ActRefused z e (AreAt (IsCoord (sight coord_seen ⟦<Log<D> as Journal>⟧.state D.told D.content D.power) r) coords.new.items z.world.parties.coords z.coords) fault) }
-    ensures grew { (r : Runs) → AllAt (λ _ h. CanRead (sight coord_seen ⟦<Log<D> as Journal>⟧.state D.told D.content D.power) h) coords.old.items → CoordsAreTold (sight coord_seen ⟦<Log<D> as Journal>⟧.state D.told D.content D.power) r coords.new.items
+    ensures grew { (r : Runs) → CoordsAreTold (sight coord_seen ⟦<Log<D> as Journal>⟧.state D.told D.content D.power) r coords.new.items
         → CoordsAreTold (sight coord_seen ⟦<Log<D> as Journal>⟧.state D.told D.content D.power) r coords.old.items }
 {
     coords_speak();

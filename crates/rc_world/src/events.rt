@@ -2,12 +2,13 @@
 ghost use Rattle.std.specs.Prelude.{◌≡◌, ◌<◌, [], IfOk, OnOk, IfErr};
 ghost use Rattle.rc_grammar.specs.Worlds.{HasEvent};
 ghost use Rattle.rc_runs.specs.Session.{Session};
-ghost use Rattle.rc_world.specs.Words.{parts_of, views};
+ghost use Rattle.rc_begin.specs.Hosts.{views};
+ghost use Rattle.rc_world.specs.Words.{parts_of};
 ghost use Rattle.rc_world.specs.Asked.{IsCut};
-ghost use Rattle.rc_world.specs.Places.{coord_name, shard_name};
-ghost use Rattle.rc_world.specs.Hosts.{Runs, HaveReadsLeft};
+ghost use Rattle.rc_begin.specs.Places.{coord_name, shard_name};
+ghost use Rattle.rc_begin.specs.Hosts.{Runs, HaveReadsLeft};
 ghost use Rattle.rc_world.specs.Limits.{CauseIs};
-ghost use Rattle.rc_world.specs.Worlds.{IsWorld, HasActed, HasStepped, KeepsCarried, KeepsParties, AreTold, CanAllBeRead};
+ghost use Rattle.rc_world.specs.Worlds.{IsWorld, HasActed, HasStepped, KeepsCarried, KeepsParties, AreTold};
 
 use crate::WorldFault;
 use crate::world::{Sending, World};
@@ -38,7 +39,7 @@ impl<F: Farm> World<F> {
             → HaveReadsLeft r coord_name z.coords → HaveReadsLeft r (shard_name r.cluster) z.shards → AreTold (views ⟦<Log<F::D> as Journal>⟧.state F.D.told F.D.content F.D.power) r (parts_of self.new)
             → IfErr result (CauseIs z event.now) }
         ensures carried { KeepsCarried (parts_of self.old) (parts_of self.new) }
-        ensures grew { (r : Runs) → CanAllBeRead (views ⟦<Log<F::D> as Journal>⟧.state F.D.told F.D.content F.D.power) (parts_of self.old) → AreTold (views ⟦<Log<F::D> as Journal>⟧.state F.D.told F.D.content F.D.power) r (parts_of self.new) → AreTold (views ⟦<Log<F::D> as Journal>⟧.state F.D.told F.D.content F.D.power) r (parts_of self.old) }
+        ensures grew { (r : Runs) → AreTold (views ⟦<Log<F::D> as Journal>⟧.state F.D.told F.D.content F.D.power) r (parts_of self.new) → AreTold (views ⟦<Log<F::D> as Journal>⟧.state F.D.told F.D.content F.D.power) r (parts_of self.old) }
     {
         match event {
             Event::Begin(tx) => self.begin(*tx),
@@ -63,12 +64,12 @@ impl<F: Farm> World<F> {
     pub fn step(&mut self, event: &Event) -> Result<Lines, WorldFault>
         requires { IsCut event.now }
         ensures ok { (r : Runs) (z : Session) → IsWorld (views ⟦<Log<F::D> as Journal>⟧.state F.D.told F.D.content F.D.power) r (parts_of self.old) z → HasEvent event.now
-            → HaveReadsLeft r coord_name z.coords → HaveReadsLeft r (shard_name r.cluster) z.shards → AreTold (views ⟦<Log<F::D> as Journal>⟧.state F.D.told F.D.content F.D.power) r (parts_of self.new)
+            → AreTold (views ⟦<Log<F::D> as Journal>⟧.state F.D.told F.D.content F.D.power) r (parts_of self.new)
             → IfOk result (λ lines. HasStepped (views ⟦<Log<F::D> as Journal>⟧.state F.D.told F.D.content F.D.power) r z event.now (parts_of self.new) lines) }
         ensures err { (r : Runs) (z : Session) → IsWorld (views ⟦<Log<F::D> as Journal>⟧.state F.D.told F.D.content F.D.power) r (parts_of self.old) z → HasEvent event.now
-            → HaveReadsLeft r coord_name z.coords → HaveReadsLeft r (shard_name r.cluster) z.shards → AreTold (views ⟦<Log<F::D> as Journal>⟧.state F.D.told F.D.content F.D.power) r (parts_of self.new)
+            → AreTold (views ⟦<Log<F::D> as Journal>⟧.state F.D.told F.D.content F.D.power) r (parts_of self.new)
             → IfErr result (CauseIs z event.now) }
-        ensures grew { (r : Runs) → CanAllBeRead (views ⟦<Log<F::D> as Journal>⟧.state F.D.told F.D.content F.D.power) (parts_of self.old) → AreTold (views ⟦<Log<F::D> as Journal>⟧.state F.D.told F.D.content F.D.power) r (parts_of self.new) → AreTold (views ⟦<Log<F::D> as Journal>⟧.state F.D.told F.D.content F.D.power) r (parts_of self.old) }
+        ensures grew { (r : Runs) → AreTold (views ⟦<Log<F::D> as Journal>⟧.state F.D.told F.D.content F.D.power) r (parts_of self.new) → AreTold (views ⟦<Log<F::D> as Journal>⟧.state F.D.told F.D.content F.D.power) r (parts_of self.old) }
     {
         self.room()?;
         let mut lines = Lines::new(self.alloc);

@@ -4,8 +4,9 @@ ghost use Rattle.rc_ids.specs.Cluster.{is_dc};
 ghost use Rattle.rc_protocol.specs.Nodes.{coord_index, shard_index};
 ghost use Rattle.rc_runs.specs.Session.{Session};
 ghost use Rattle.rc_runs.specs.World.{is_shard_of as is_of_world};
-ghost use Rattle.rc_world.specs.Words.{parts_of, views};
-ghost use Rattle.rc_world.specs.Hosts.{Runs};
+ghost use Rattle.rc_begin.specs.Hosts.{views};
+ghost use Rattle.rc_world.specs.Words.{parts_of};
+ghost use Rattle.rc_begin.specs.Hosts.{Runs};
 ghost use Rattle.rc_world.specs.Worlds.{IsWorld};
 
 use crate::shards::{is_shard_of, place_of};

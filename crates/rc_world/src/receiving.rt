@@ -6,12 +6,13 @@ ghost use Rattle.rc_runs.specs.declared.event.Event.TheVariants.{Deliver};
 ghost use Rattle.rc_runs.specs.Refusals.{wrong, begins};
 ghost use Rattle.rc_runs.specs.Session.{Session};
 ghost use Rattle.rc_runs.specs.World.{deed, received, actor};
-ghost use Rattle.rc_world.specs.Words.{parts_of, views};
-ghost use Rattle.rc_world.specs.Places.{coord_name, shard_name};
-ghost use Rattle.rc_world.specs.Hosts.{Runs, HaveReadsLeft, CoordsAreTold, ShardsAreTold};
+ghost use Rattle.rc_begin.specs.Hosts.{views};
+ghost use Rattle.rc_world.specs.Words.{parts_of};
+ghost use Rattle.rc_begin.specs.Places.{coord_name, shard_name};
+ghost use Rattle.rc_begin.specs.Hosts.{Runs, HaveReadsLeft, CoordsAreTold, ShardsAreTold};
 ghost use Rattle.rc_world.specs.Steps.{IsDone};
 ghost use Rattle.rc_world.specs.Limits.{CauseIs};
-ghost use Rattle.rc_world.specs.Worlds.{IsWorld, HasActed, KeepsCarried, AreTold, CanAllBeRead};
+ghost use Rattle.rc_world.specs.Worlds.{IsWorld, HasActed, KeepsCarried, AreTold};
 
 use crate::WorldFault;
 use crate::mail::{message, wrong_delivery};
@@ -40,7 +41,7 @@ impl<F: Farm> World<F> {
             → ShardsAreTold (views ⟦<Log<F::D> as Journal>⟧.state F.D.told F.D.content F.D.power).shards r (parts_of self.new).shards
             → IfErr result (CauseIs z e) }
         ensures carried { KeepsCarried (parts_of self.old) (parts_of self.new) }
-        ensures grew { (r : Runs) → CanAllBeRead (views ⟦<Log<F::D> as Journal>⟧.state F.D.told F.D.content F.D.power) (parts_of self.old) → AreTold (views ⟦<Log<F::D> as Journal>⟧.state F.D.told F.D.content F.D.power) r (parts_of self.new) → AreTold (views ⟦<Log<F::D> as Journal>⟧.state F.D.told F.D.content F.D.power) r (parts_of self.old) }
+        ensures grew { (r : Runs) → AreTold (views ⟦<Log<F::D> as Journal>⟧.state F.D.told F.D.content F.D.power) r (parts_of self.new) → AreTold (views ⟦<Log<F::D> as Journal>⟧.state F.D.told F.D.content F.D.power) r (parts_of self.old) }
     {
         match &envelope.to {
             Party::Client(tx) => self.hear(*tx, &envelope.msg, lines),
@@ -64,7 +65,7 @@ impl<F: Farm> World<F> {
             → ShardsAreTold (views ⟦<Log<F::D> as Journal>⟧.state F.D.told F.D.content F.D.power).shards r (parts_of self.new).shards
             → IfErr result (CauseIs z (Deliver number)) }
         ensures carried { KeepsCarried (parts_of self.old) (parts_of self.new) }
-        ensures grew { (r : Runs) → CanAllBeRead (views ⟦<Log<F::D> as Journal>⟧.state F.D.told F.D.content F.D.power) (parts_of self.old) → AreTold (views ⟦<Log<F::D> as Journal>⟧.state F.D.told F.D.content F.D.power) r (parts_of self.new) → AreTold (views ⟦<Log<F::D> as Journal>⟧.state F.D.told F.D.content F.D.power) r (parts_of self.old) }
+        ensures grew { (r : Runs) → AreTold (views ⟦<Log<F::D> as Journal>⟧.state F.D.told F.D.content F.D.power) r (parts_of self.new) → AreTold (views ⟦<Log<F::D> as Journal>⟧.state F.D.told F.D.content F.D.power) r (parts_of self.old) }
     {
         if let Some(name) = wrong_delivery(&self.net, number) {
             return Err(WorldFault::Naming(name));

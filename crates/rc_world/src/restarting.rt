@@ -5,12 +5,13 @@ ghost use Rattle.rc_report.specs.declared.line.Line.TheVariants.{Up};
 ghost use Rattle.rc_runs.specs.declared.event.Event.TheVariants.{Restart};
 ghost use Rattle.rc_runs.specs.Session.{Session};
 ghost use Rattle.rc_runs.specs.World.{is_up};
-ghost use Rattle.rc_world.specs.Words.{parts_of, views};
-ghost use Rattle.rc_world.specs.Places.{coord_name, shard_name};
-ghost use Rattle.rc_world.specs.Hosts.{Runs, HaveReadsLeft};
+ghost use Rattle.rc_begin.specs.Hosts.{views};
+ghost use Rattle.rc_world.specs.Words.{parts_of};
+ghost use Rattle.rc_begin.specs.Places.{coord_name, shard_name};
+ghost use Rattle.rc_begin.specs.Hosts.{Runs, HaveReadsLeft};
 ghost use Rattle.rc_world.specs.Steps.{event_limit};
 ghost use Rattle.rc_world.specs.Limits.{CauseIs};
-ghost use Rattle.rc_world.specs.Worlds.{IsWorld, HasActed, KeepsCarried, AreTold, CanAllBeRead};
+ghost use Rattle.rc_world.specs.Worlds.{IsWorld, HasActed, KeepsCarried, AreTold};
 
 use crate::WorldFault;
 use crate::powering::silent;
@@ -33,7 +34,7 @@ impl<F: Farm> World<F> {
             → HaveReadsLeft r coord_name z.coords → AreTold (views ⟦<Log<F::D> as Journal>⟧.state F.D.told F.D.content F.D.power) r (parts_of self.new)
             → IfErr result (CauseIs z (Restart (Coordinator dc))) }
         ensures carried { KeepsCarried (parts_of self.old) (parts_of self.new) }
-        ensures grew { (r : Runs) → CanAllBeRead (views ⟦<Log<F::D> as Journal>⟧.state F.D.told F.D.content F.D.power) (parts_of self.old) → AreTold (views ⟦<Log<F::D> as Journal>⟧.state F.D.told F.D.content F.D.power) r (parts_of self.new) → AreTold (views ⟦<Log<F::D> as Journal>⟧.state F.D.told F.D.content F.D.power) r (parts_of self.old) }
+        ensures grew { (r : Runs) → AreTold (views ⟦<Log<F::D> as Journal>⟧.state F.D.told F.D.content F.D.power) r (parts_of self.new) → AreTold (views ⟦<Log<F::D> as Journal>⟧.state F.D.told F.D.content F.D.power) r (parts_of self.old) }
     {
         count_laws();
         let node = NodeId::Coord(dc);
@@ -66,7 +67,7 @@ impl<F: Farm> World<F> {
             → HaveReadsLeft r (shard_name r.cluster) z.shards → AreTold (views ⟦<Log<F::D> as Journal>⟧.state F.D.told F.D.content F.D.power) r (parts_of self.new)
             → IfErr result (CauseIs z (Restart (ShardServer dc shard))) }
         ensures carried { KeepsCarried (parts_of self.old) (parts_of self.new) }
-        ensures grew { (r : Runs) → CanAllBeRead (views ⟦<Log<F::D> as Journal>⟧.state F.D.told F.D.content F.D.power) (parts_of self.old) → AreTold (views ⟦<Log<F::D> as Journal>⟧.state F.D.told F.D.content F.D.power) r (parts_of self.new) → AreTold (views ⟦<Log<F::D> as Journal>⟧.state F.D.told F.D.content F.D.power) r (parts_of self.old) }
+        ensures grew { (r : Runs) → AreTold (views ⟦<Log<F::D> as Journal>⟧.state F.D.told F.D.content F.D.power) r (parts_of self.new) → AreTold (views ⟦<Log<F::D> as Journal>⟧.state F.D.told F.D.content F.D.power) r (parts_of self.old) }
     {
         let node = NodeId::Shard(dc, shard);
         match self.shard_place(dc, shard) {
@@ -98,7 +99,7 @@ impl<F: Farm> World<F> {
             → HaveReadsLeft r coord_name z.coords → HaveReadsLeft r (shard_name r.cluster) z.shards → AreTold (views ⟦<Log<F::D> as Journal>⟧.state F.D.told F.D.content F.D.power) r (parts_of self.new)
             → IfErr result (CauseIs z (Restart node.now)) }
         ensures carried { KeepsCarried (parts_of self.old) (parts_of self.new) }
-        ensures grew { (r : Runs) → CanAllBeRead (views ⟦<Log<F::D> as Journal>⟧.state F.D.told F.D.content F.D.power) (parts_of self.old) → AreTold (views ⟦<Log<F::D> as Journal>⟧.state F.D.told F.D.content F.D.power) r (parts_of self.new) → AreTold (views ⟦<Log<F::D> as Journal>⟧.state F.D.told F.D.content F.D.power) r (parts_of self.old) }
+        ensures grew { (r : Runs) → AreTold (views ⟦<Log<F::D> as Journal>⟧.state F.D.told F.D.content F.D.power) r (parts_of self.new) → AreTold (views ⟦<Log<F::D> as Journal>⟧.state F.D.told F.D.content F.D.power) r (parts_of self.old) }
     {
         match node {
             NodeId::Coord(dc) => self.coord_restarts(*dc),
@@ -120,7 +121,7 @@ impl<F: Farm> World<F> {
             → HaveReadsLeft r coord_name z.coords → HaveReadsLeft r (shard_name r.cluster) z.shards → AreTold (views ⟦<Log<F::D> as Journal>⟧.state F.D.told F.D.content F.D.power) r (parts_of self.new)
             → IfErr result (CauseIs z (Restart node.now)) }
         ensures carried { KeepsCarried (parts_of self.old) (parts_of self.new) }
-        ensures grew { (r : Runs) → CanAllBeRead (views ⟦<Log<F::D> as Journal>⟧.state F.D.told F.D.content F.D.power) (parts_of self.old) → AreTold (views ⟦<Log<F::D> as Journal>⟧.state F.D.told F.D.content F.D.power) r (parts_of self.new) → AreTold (views ⟦<Log<F::D> as Journal>⟧.state F.D.told F.D.content F.D.power) r (parts_of self.old) }
+        ensures grew { (r : Runs) → AreTold (views ⟦<Log<F::D> as Journal>⟧.state F.D.told F.D.content F.D.power) r (parts_of self.new) → AreTold (views ⟦<Log<F::D> as Journal>⟧.state F.D.told F.D.content F.D.power) r (parts_of self.old) }
     {
         if self.is_up(node) {
             return Err(WorldFault::Naming(Wrong::Up(*node)));

@@ -9,31 +9,27 @@ ghost use Rattle.rc_runs.specs.World.{deed, shard_does, is_shard_of as is_of_wor
 ghost use Rattle.rc_ids.specs.declared.names.NodeId.TheVariants.{Shard as ShardServer};
 ghost use Rattle.rc_host.specs.AnyNode.{shard_seen};
 ghost use Rattle.rc_host.specs.Causes.{cause_of};
-ghost use Rattle.rc_host.specs.Hosts.{CanRead, sight};
+ghost use Rattle.rc_host.specs.Hosts.{sight};
 ghost use Rattle.rc_grammar.specs.Acts.{HasNodeCause};
 ghost use Rattle.rc_grammar.specs.Worlds.{HasWorld};
-ghost use Rattle.rc_world.specs.Places.{shard_name, AreAt, AllAt};
-ghost use Rattle.rc_world.specs.Wells.{is_well};
-ghost use Rattle.rc_world.specs.Hosts.{Runs, IsShard, ShardsAreTold, HaveReadsLeft};
+ghost use Rattle.rc_begin.specs.Places.{shard_name, AreAt, AllAt};
+ghost use Rattle.rc_begin.specs.Wells.{is_well};
+ghost use Rattle.rc_begin.specs.Hosts.{Runs, IsShard, ShardsAreTold, HaveReadsLeft};
 ghost use Rattle.rc_world.specs.Steps.{IsDone};
 ghost use Rattle.rc_world.specs.Acted.{ShardsActed};
 ghost use Rattle.rc_world.specs.Refused.{ActRefused};
 
 use crate::WorldFault;
 use crate::turns::turn;
+use rc_begin::ShardHost;
 use rc_disk::Disk;
 use rc_grammar::shards_speak;
 use rc_host::{Cause, Host};
 use rc_ids::{Cluster, DcId, NodeId, Party, ShardId};
-use rc_locks::Locks;
 use rc_log::{Journal, Log};
 use rc_msg::Outbox;
 use rc_report::Lines;
-use rc_shard::Shard;
 use std::alloc::Global;
-
-/// A shard server on its host.
-pub(crate) type ShardHost<D> = Host<Shard<Log<D>, Locks>, Log<D>, D>;
 
 /// Whether the shard server is one of the world.
 pub(crate) fn is_shard_of(cluster: &Cluster, dc: DcId, shard: ShardId) -> bool
@@ -74,7 +70,7 @@ pub(crate) fn shard_acts<D: Disk>(
         → AreAt (IsShard (sight shard_seen ⟦<Log<D> as Journal>⟧.state D.told D.content D.power) r) shards.old.items z.world.parties.shards z.shards → IsDone z e → deed z.world.parties z.world.sent e ≡ shard_does z.world.parties dc shard (cause_of cause.now)
         → HasNodeCause (cause_of cause.now) → HaveReadsLeft r (shard_name r.cluster) z.shards → ShardsAreTold (sight shard_seen ⟦<Log<D> as Journal>⟧.state D.told D.content D.power) r shards.new.items
         → IfErr result (λ fault. ActRefused z e (AreAt (IsShard (sight shard_seen ⟦<Log<D> as Journal>⟧.state D.told D.content D.power) r) shards.new.items z.world.parties.shards z.shards) fault) }
-    ensures grew { (r : Runs) → AllAt (λ _ h. CanRead (sight shard_seen ⟦<Log<D> as Journal>⟧.state D.told D.content D.power) h) shards.old.items → ShardsAreTold (sight shard_seen ⟦<Log<D> as Journal>⟧.state D.told D.content D.power) r shards.new.items
+    ensures grew { (r : Runs) → ShardsAreTold (sight shard_seen ⟦<Log<D> as Journal>⟧.state D.told D.content D.power) r shards.new.items
         → ShardsAreTold (sight shard_seen ⟦<Log<D> as Journal>⟧.state D.told D.content D.power) r shards.old.items }
 {
     shards_speak();

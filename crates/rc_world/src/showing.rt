@@ -2,8 +2,9 @@
 ghost use Rattle.std.specs.Prelude.{◌≡◌, length};
 ghost use Rattle.rc_runs.specs.Session.{Session};
 ghost use Rattle.rc_runs.specs.World.{order};
-ghost use Rattle.rc_world.specs.Words.{parts_of, views};
-ghost use Rattle.rc_world.specs.Hosts.{Runs};
+ghost use Rattle.rc_begin.specs.Hosts.{views};
+ghost use Rattle.rc_world.specs.Words.{parts_of};
+ghost use Rattle.rc_begin.specs.Hosts.{Runs};
 ghost use Rattle.rc_world.specs.Worlds.{IsWorld};
 
 use crate::world::World;

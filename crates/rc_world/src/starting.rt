@@ -12,17 +12,16 @@ ghost use Rattle.rc_runs.specs.Session.{Session};
 ghost use Rattle.rc_runs.specs.World.{is_up, is_shard_of as is_of_world};
 ghost use Rattle.rc_host.specs.AnyNode.{IsCoordinator, IsShardServer, coord_seen, shard_seen};
 ghost use Rattle.rc_host.specs.Hosts.{sight};
-ghost use Rattle.rc_world.specs.Places.{coord_name, shard_name, AreAt};
-ghost use Rattle.rc_world.specs.Wells.{is_well};
-ghost use Rattle.rc_world.specs.Hosts.{Runs, IsCoord, IsShard, CoordsAreTold, ShardsAreTold, HaveReadsLeft, CanBeRead};
+ghost use Rattle.rc_begin.specs.Places.{coord_name, shard_name, AreAt};
+ghost use Rattle.rc_begin.specs.Wells.{is_well};
+ghost use Rattle.rc_begin.specs.Hosts.{Runs, IsCoord, IsShard, CoordsAreTold, ShardsAreTold, HaveReadsLeft};
 ghost use Rattle.rc_world.specs.Acted.{ShardsActed};
 ghost use Rattle.rc_world.specs.CoordActed.{CoordsActed};
 ghost use Rattle.rc_world.specs.Turns.{start_fault};
 ghost use Rattle.rc_world.specs.Refused.{StartRefused};
 
 use crate::WorldFault;
-use crate::coords::CoordHost;
-use crate::shards::ShardHost;
+use rc_begin::{CoordHost, ShardHost};
 use rc_disk::Disk;
 use rc_host::{RestartFault, rejoin};
 use rc_ids::{Cluster, NodeId};
@@ -62,7 +61,7 @@ pub(crate) fn coord_starts<D: Disk>(
     ensures err { (r : Runs) (z : Session) (dc : ℕ) → node.now ≡ Coordinator dc → r.cluster ≡ cluster.now → z.world.parties.layout ≡ r.cluster → is_dc r.cluster dc ≡ true → place ≡ coord_index dc → is_up z.world.parties (Coordinator dc) ≡ false
         → AreAt (IsCoord (sight coord_seen ⟦<Log<D> as Journal>⟧.state D.told D.content D.power) r) coords.old.items z.world.parties.coords z.coords → HaveReadsLeft r coord_name z.coords → CoordsAreTold (sight coord_seen ⟦<Log<D> as Journal>⟧.state D.told D.content D.power) r coords.new.items
         → IfErr result (λ fault. StartRefused z (Restart (Coordinator dc)) (λ devices. AreAt (IsCoord (sight coord_seen ⟦<Log<D> as Journal>⟧.state D.told D.content D.power) r) coords.new.items z.world.parties.coords devices) fault) }
-    ensures grew { (r : Runs) → CanBeRead (sight coord_seen ⟦<Log<D> as Journal>⟧.state D.told D.content D.power) coords.old.items → CoordsAreTold (sight coord_seen ⟦<Log<D> as Journal>⟧.state D.told D.content D.power) r coords.new.items → CoordsAreTold (sight coord_seen ⟦<Log<D> as Journal>⟧.state D.told D.content D.power) r coords.old.items }
+    ensures grew { (r : Runs) → CoordsAreTold (sight coord_seen ⟦<Log<D> as Journal>⟧.state D.told D.content D.power) r coords.new.items → CoordsAreTold (sight coord_seen ⟦<Log<D> as Journal>⟧.state D.told D.content D.power) r coords.old.items }
 {
     match rejoin(alloc, *node, cluster, &mut coords[place], out) {
         Ok(()) => Ok(()),
@@ -91,7 +90,7 @@ pub(crate) fn shard_starts<D: Disk>(
     ensures err { (r : Runs) (z : Session) (dc shard : ℕ) → node.now ≡ ShardServer dc shard → r.cluster ≡ cluster.now → z.world.parties.layout ≡ r.cluster → is_of_world r.cluster dc shard ≡ true → place ≡ shard_index r.cluster dc shard → is_up z.world.parties (ShardServer dc shard) ≡ false
         → AreAt (IsShard (sight shard_seen ⟦<Log<D> as Journal>⟧.state D.told D.content D.power) r) shards.old.items z.world.parties.shards z.shards → HaveReadsLeft r (shard_name r.cluster) z.shards → ShardsAreTold (sight shard_seen ⟦<Log<D> as Journal>⟧.state D.told D.content D.power) r shards.new.items
         → IfErr result (λ fault. StartRefused z (Restart (ShardServer dc shard)) (λ devices. AreAt (IsShard (sight shard_seen ⟦<Log<D> as Journal>⟧.state D.told D.content D.power) r) shards.new.items z.world.parties.shards devices) fault) }
-    ensures grew { (r : Runs) → CanBeRead (sight shard_seen ⟦<Log<D> as Journal>⟧.state D.told D.content D.power) shards.old.items → ShardsAreTold (sight shard_seen ⟦<Log<D> as Journal>⟧.state D.told D.content D.power) r shards.new.items → ShardsAreTold (sight shard_seen ⟦<Log<D> as Journal>⟧.state D.told D.content D.power) r shards.old.items }
+    ensures grew { (r : Runs) → ShardsAreTold (sight shard_seen ⟦<Log<D> as Journal>⟧.state D.told D.content D.power) r shards.new.items → ShardsAreTold (sight shard_seen ⟦<Log<D> as Journal>⟧.state D.told D.content D.power) r shards.old.items }
 {
     match rejoin(alloc, *node, cluster, &mut shards[place], out) {
         Ok(()) => Ok(()),

@@ -12,14 +12,13 @@ ghost use Rattle.rc_runs.specs.Session.{Session};
 ghost use Rattle.rc_runs.specs.World.{is_up, is_shard_of as is_of_world};
 ghost use Rattle.rc_host.specs.AnyNode.{coord_seen, shard_seen};
 ghost use Rattle.rc_host.specs.Hosts.{sight};
-ghost use Rattle.rc_world.specs.Places.{AreAt};
-ghost use Rattle.rc_world.specs.Wells.{is_well};
-ghost use Rattle.rc_world.specs.Hosts.{Runs, IsCoord, IsShard, CoordsAreTold, ShardsAreTold};
+ghost use Rattle.rc_begin.specs.Places.{AreAt};
+ghost use Rattle.rc_begin.specs.Wells.{is_well};
+ghost use Rattle.rc_begin.specs.Hosts.{Runs, IsCoord, IsShard, CoordsAreTold, ShardsAreTold};
 ghost use Rattle.rc_world.specs.Acted.{ShardsActed};
 ghost use Rattle.rc_world.specs.CoordActed.{CoordsActed};
 
-use crate::coords::CoordHost;
-use crate::shards::ShardHost;
+use rc_begin::{CoordHost, ShardHost};
 use rc_disk::Disk;
 use rc_host::{arm, crash};
 use rc_log::{Journal, Log};

@@ -7,10 +7,10 @@ ghost use Rattle.rc_runs.specs.Devices.{Device};
 ghost use Rattle.rc_disk.specs.Calls.{Told};
 ghost use Rattle.rc_host.specs.AnyNode.{node_act};
 ghost use Rattle.rc_host.specs.Standing.{Standing};
-ghost use Rattle.rc_host.specs.Hosts.{IsThere, CountsOn, Run, sight, is_up, IfUp, IsHost, IsToldBy, HasReadsLeft, CanRead};
+ghost use Rattle.rc_host.specs.Hosts.{IsThere, CountsOn, Run, sight, is_up, IfUp, IsHost, IsToldBy, HasReadsLeft};
 ghost use Rattle.rc_host.specs.Causes.{cause_of};
 ghost use Rattle.rc_host.specs.declared.host.Course.TheVariants.{Goes};
-ghost use Rattle.rc_world.specs.declared.fault.WorldFault.TheVariants.{NoMemory as OutOfMemory};
+ghost use Rattle.rc_begin.specs.declared.fault.WorldFault.TheVariants.{NoMemory as OutOfMemory};
 ghost use Rattle.rc_world.specs.Turns.{Turned, TurnRefused, fault_of};
 
 use crate::WorldFault;
@@ -55,7 +55,7 @@ pub(crate) fn turn<D: Disk, N: Node<Log<D>>>(
         → IfErr result (λ fault. TurnRefused (sight N.seen ⟦<Log<D> as Journal>⟧.state D.told D.content D.power) (N.back run.node run.cluster) run fault host.new x d act) }
     ensures counts { (run : Run) (x : Standing) (d : Device) → is_up host.old ≡ true → IsHost (sight N.seen ⟦<Log<D> as Journal>⟧.state D.told D.content D.power) (N.back run.node run.cluster) run host.old x d
         → IfOk result (λ _. CountsOn (sight N.seen ⟦<Log<D> as Journal>⟧.state D.told D.content D.power) host.old host.new (node_act run.cluster run.node x.durable x.volatile (cause_of cause.now))) }
-    ensures grew { (ended : Told) → CanRead (sight N.seen ⟦<Log<D> as Journal>⟧.state D.told D.content D.power) host.old → IsToldBy (sight N.seen ⟦<Log<D> as Journal>⟧.state D.told D.content D.power) host.new ended → IsToldBy (sight N.seen ⟦<Log<D> as Journal>⟧.state D.told D.content D.power) host.old ended }
+    ensures grew { (ended : Told) → IsToldBy (sight N.seen ⟦<Log<D> as Journal>⟧.state D.told D.content D.power) host.new ended → IsToldBy (sight N.seen ⟦<Log<D> as Journal>⟧.state D.told D.content D.power) host.old ended }
     ensures idle { is_up host.old ≡ false → (host.new ≡ host.old) × (lines.new ≡ []) × IfOk result (λ done. (done.0 ≡ new_outbox (NodeParty node.now)) × (done.1 ≡ Goes)) × IfErr result (λ fault. fault ≡ OutOfMemory) }
 {
     let mut out = Outbox::new(alloc, Party::Node(*node));

@@ -1,12 +1,11 @@
 // A world of nodes on their disks, clients and the network between them.
 ghost use Rattle.std.specs.Prelude.{IsTrue};
 ghost use Rattle.std.specs.List.{list_all};
-ghost use Rattle.rc_world.specs.Wells.{is_well};
+ghost use Rattle.rc_begin.specs.Wells.{is_well};
 ghost use Rattle.rc_world.specs.Weights.{are_of};
 
 use crate::clients::Clients;
-use crate::coords::CoordHost;
-use crate::shards::ShardHost;
+use rc_begin::{CoordHost, ShardHost};
 use rc_disk::Farm;
 use rc_ids::{Cluster, Party, Sends};
 use rc_net::Net;

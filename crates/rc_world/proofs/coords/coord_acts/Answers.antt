@@ -6,8 +6,8 @@ use Rattle.rc_log.specs.contracts.log.LogJournal.TheImpl.{ghosts}
 use Rattle.rc_host.specs.AnyNode.{coord_seen}
 use Rattle.rc_host.specs.Causes.{cause_of}
 use Rattle.rc_host.specs.Hosts.{sight}
-use Rattle.rc_world.specs.Places.{coord_name}
-use Rattle.rc_world.specs.Hosts.{run_at}
+use Rattle.rc_begin.specs.Places.{coord_name}
+use Rattle.rc_begin.specs.Hosts.{run_at}
 use Rattle.rc_world.proofs.CoordHosts.{name_is}
 use Rattle.rc_world.proofs.CoordTurns as turns
 use Rattle.rc_world.proofs.CoordTurns.{acts_at, refuses_if, logs_spelled, coords_told}
@@ -55,12 +55,12 @@ returns-clause-err g c = λ r z e dc layout grammar node there spot are done is_
     c.host_acts.ensures.idle
 
 pub returns-clause-grew : goal.returns-clause-grew
-returns-clause-grew g c = λ r can told.
+returns-clause-grew g c = λ r told.
     let hosts = c.args.coords.now.items in
     let h = c.index_mut.result.now in
     let at : slice_get hosts c.args.place ≡ Some h = slice_get_read hosts (length hosts) c.args.place h refl c.requires.within c.index_mut.ensures.value in
     coords_told (sight coord_seen (ghosts g.row.D g.D.Disk g.D.Disk-dict g.D.Destruct-dict).state g.D.Disk.told g.D.Disk.content g.D.Disk.power) r hosts c.args.place h c.host_acts.new.host at
-    (c.host_acts.ensures.grew (r.ended (coord_name c.args.place)) (can c.args.place h at)) told
+    (c.host_acts.ensures.grew (r.ended (coord_name c.args.place))) told
 
 pub returns-clause-well : goal.returns-clause-well
 returns-clause-well g c =

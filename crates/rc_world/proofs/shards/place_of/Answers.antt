@@ -1,5 +1,5 @@
 use Rattle.std.proofs.Common.{◌≡◌, ◌+◌, ◌-◌, ◌*◌, ◌<◌, ℕ, subst, sym}
-use Rattle.rc_world.proofs.Lists.{place_within}
+use Rattle.rc_begin.proofs.Lists.{place_within}
 use Rattle.rc_world.proofs.shards.place_of.Goals as goal
 
 pub returns-clause-within : goal.returns-clause-within

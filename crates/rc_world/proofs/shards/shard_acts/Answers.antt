@@ -4,10 +4,10 @@ use Rattle.std.proofs.lemmas.Option.{slice_get_read}
 use Rattle.rc_protocol.specs.Nodes.{shard_index}
 use Rattle.rc_host.specs.Causes.{cause_of}
 use Rattle.rc_host.specs.Standing.{shard_standing}
-use Rattle.rc_world.specs.Places.{shard_name}
-use Rattle.rc_world.specs.Hosts.{run_at}
+use Rattle.rc_begin.specs.Places.{shard_name}
+use Rattle.rc_begin.specs.Hosts.{run_at}
 use Rattle.rc_world.proofs.ShardTurns as turns
-use Rattle.rc_world.proofs.Lists.{name_is}
+use Rattle.rc_begin.proofs.Lists.{name_is}
 use Rattle.rc_log.specs.contracts.log.LogJournal.TheImpl.{ghosts}
 use Rattle.rc_host.specs.AnyNode.{shard_seen}
 use Rattle.rc_host.specs.Hosts.{sight}
@@ -56,20 +56,20 @@ returns-in-Err-clause-err g c = λ r z e dc shard cluster layout grammar node th
     (λ down. let k = c.in-Err.ensures.idle down in (k.0, k.3))
 
 pub returns-in-Ok-clause-grew : goal.returns-in-Ok-clause-grew
-returns-in-Ok-clause-grew g c = λ r can told.
+returns-in-Ok-clause-grew g c = λ r told.
     let hosts = c.args.shards.now.items in
     let h = c.index_mut.result.now in
     let at : slice_get hosts c.args.place ≡ Some h = slice_get_read hosts (length hosts) c.args.place h refl c.requires.within c.index_mut.ensures.value in
     shards_told (sight shard_seen (ghosts g.row.D g.D.Disk g.D.Disk-dict g.D.Destruct-dict).state g.D.Disk.told g.D.Disk.content g.D.Disk.power) r hosts c.args.place h c.turn.new.host at
-    (c.in-Ok.ensures.grew (r.ended (shard_name r.cluster c.args.place)) (can c.args.place h at)) told
+    (c.in-Ok.ensures.grew (r.ended (shard_name r.cluster c.args.place))) told
 
 pub returns-in-Err-clause-grew : goal.returns-in-Err-clause-grew
-returns-in-Err-clause-grew g c = λ r can told.
+returns-in-Err-clause-grew g c = λ r told.
     let hosts = c.args.shards.now.items in
     let h = c.index_mut.result.now in
     let at : slice_get hosts c.args.place ≡ Some h = slice_get_read hosts (length hosts) c.args.place h refl c.requires.within c.index_mut.ensures.value in
     shards_told (sight shard_seen (ghosts g.row.D g.D.Disk g.D.Disk-dict g.D.Destruct-dict).state g.D.Disk.told g.D.Disk.content g.D.Disk.power) r hosts c.args.place h c.turn.new.host at
-    (c.in-Err.ensures.grew (r.ended (shard_name r.cluster c.args.place)) (can c.args.place h at)) told
+    (c.in-Err.ensures.grew (r.ended (shard_name r.cluster c.args.place))) told
 
 pub returns-in-Ok-clause-well : goal.returns-in-Ok-clause-well
 returns-in-Ok-clause-well g c =

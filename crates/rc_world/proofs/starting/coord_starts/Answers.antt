@@ -13,8 +13,8 @@ use Rattle.rc_log.specs.contracts.log.LogJournal.TheImpl.{ghosts}
 use Rattle.rc_host.specs.AnyNode.{coord_seen}
 use Rattle.rc_host.specs.Standing.{coord_standing}
 use Rattle.rc_host.specs.Hosts.{sight}
-use Rattle.rc_world.specs.Places.{coord_name, AreAt}
-use Rattle.rc_world.specs.Hosts.{run_at, IsCoord}
+use Rattle.rc_begin.specs.Places.{coord_name, AreAt}
+use Rattle.rc_begin.specs.Hosts.{run_at, IsCoord}
 use Rattle.rc_world.proofs.CoordHosts.{name_is}
 use Rattle.rc_world.proofs.CoordTurns.{coords_told}
 use Rattle.rc_world.proofs.CoordStops as changes
@@ -56,20 +56,20 @@ returns-in-Err-clause-err g c = λ r z dc is_node cluster layout there spot down
     refused_as z (Restart (Coord dc)) (λ (devices : List Device). AreAt (IsCoord s r) (slice_set hosts c.args.place c.rejoin.new.host) z.world.parties.coords devices) (start_fault c.in-Err.fault) c.world_fault.result c.world_fault.ensures why
 
 pub returns-in-Ok-clause-grew : goal.returns-in-Ok-clause-grew
-returns-in-Ok-clause-grew g c = λ r can told.
+returns-in-Ok-clause-grew g c = λ r told.
     let hosts = c.args.coords.now.items in
     let h = c.index_mut.result.now in
     let at : slice_get hosts c.args.place ≡ Some h = slice_get_read hosts (length hosts) c.args.place h refl c.requires.within c.index_mut.ensures.value in
     coords_told (sight coord_seen (ghosts g.row.D g.D.Disk g.D.Disk-dict g.D.Destruct-dict).state g.D.Disk.told g.D.Disk.content g.D.Disk.power) r hosts c.args.place h c.rejoin.new.host at
-    (c.in-Ok.ensures.grew (r.ended (coord_name c.args.place)) (can c.args.place h at)) told
+    (c.in-Ok.ensures.grew (r.ended (coord_name c.args.place))) told
 
 pub returns-in-Err-clause-grew : goal.returns-in-Err-clause-grew
-returns-in-Err-clause-grew g c = λ r can told.
+returns-in-Err-clause-grew g c = λ r told.
     let hosts = c.args.coords.now.items in
     let h = c.index_mut.result.now in
     let at : slice_get hosts c.args.place ≡ Some h = slice_get_read hosts (length hosts) c.args.place h refl c.requires.within c.index_mut.ensures.value in
     coords_told (sight coord_seen (ghosts g.row.D g.D.Disk g.D.Disk-dict g.D.Destruct-dict).state g.D.Disk.told g.D.Disk.content g.D.Disk.power) r hosts c.args.place h c.rejoin.new.host at
-    (c.in-Err.ensures.grew (r.ended (coord_name c.args.place)) (can c.args.place h at)) told
+    (c.in-Err.ensures.grew (r.ended (coord_name c.args.place))) told
 
 pub returns-in-Ok-clause-well : goal.returns-in-Ok-clause-well
 returns-in-Ok-clause-well g c =

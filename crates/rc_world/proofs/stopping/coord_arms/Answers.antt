@@ -6,8 +6,8 @@ use Rattle.rc_log.specs.contracts.log.LogJournal.TheImpl.{ghosts}
 use Rattle.rc_host.specs.AnyNode.{coord_seen}
 use Rattle.rc_host.specs.Standing.{coord_standing}
 use Rattle.rc_host.specs.Hosts.{sight}
-use Rattle.rc_world.specs.Places.{coord_name}
-use Rattle.rc_world.specs.Hosts.{run_at}
+use Rattle.rc_begin.specs.Places.{coord_name}
+use Rattle.rc_begin.specs.Hosts.{run_at}
 use Rattle.rc_world.proofs.CoordTurns.{coords_told}
 use Rattle.rc_world.proofs.CoordStops as changes
 use Rattle.rc_world.proofs.Wellness.{well_at, well_set}

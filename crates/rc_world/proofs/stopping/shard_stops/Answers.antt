@@ -6,8 +6,8 @@ use Rattle.rc_log.specs.contracts.log.LogJournal.TheImpl.{ghosts}
 use Rattle.rc_host.specs.AnyNode.{shard_seen}
 use Rattle.rc_host.specs.Standing.{shard_standing}
 use Rattle.rc_host.specs.Hosts.{sight}
-use Rattle.rc_world.specs.Places.{shard_name}
-use Rattle.rc_world.specs.Hosts.{run_at}
+use Rattle.rc_begin.specs.Places.{shard_name}
+use Rattle.rc_begin.specs.Hosts.{run_at}
 use Rattle.rc_world.proofs.ShardTurns.{shards_told}
 use Rattle.rc_world.proofs.ShardStops as changes
 use Rattle.rc_world.proofs.Wellness.{well_at, well_set, down_is_fine}

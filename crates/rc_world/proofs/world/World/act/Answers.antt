@@ -45,10 +45,10 @@ pub returns-in-Vanish-clause-ok : goal.returns-in-Vanish-clause-ok
 returns-in-Vanish-clause-ok g c = λ r z is has left_coords left_shards told. c.command-in-Vanish.ensures.ok r z _ is (ap command c.in-Vanish.is)
 
 pub returns-in-Crash-clause-grew : goal.returns-in-Crash-clause-grew
-returns-in-Crash-clause-grew g c = λ r can told. c.crash.ensures.grew r told
+returns-in-Crash-clause-grew g c = λ r told. c.crash.ensures.grew r told
 
 pub returns-in-CrashAt-clause-grew : goal.returns-in-CrashAt-clause-grew
-returns-in-CrashAt-clause-grew g c = λ r can told. c.arm.ensures.grew r told
+returns-in-CrashAt-clause-grew g c = λ r told. c.arm.ensures.grew r told
 
 pub returns-in-CrashAt-clause-ok : goal.returns-in-CrashAt-clause-ok
 returns-in-CrashAt-clause-ok g c = λ r z is has left_coords left_shards told.

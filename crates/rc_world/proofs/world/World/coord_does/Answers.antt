@@ -3,8 +3,7 @@ use Rattle.rc_ids.specs.Cluster.{is_dc}
 use Rattle.rc_ids.specs.declared.names.NodeId.TheVariants.{Coord as Coordinator}
 use Rattle.rc_protocol.specs.Nodes.{coord_index}
 use Rattle.rc_world.proofs.Noded.{coords_did}
-use Rattle.rc_world.proofs.Lists.{is_of_world}
-use Rattle.rc_world.proofs.Powered.{coords_can_read}
+use Rattle.rc_begin.proofs.Lists.{is_of_world}
 use Rattle.rc_world.proofs.world.World.coord_does.Goals as goal
 
 pub returns-then-place-len-clause-ok : goal.returns-then-place-len-clause-ok
@@ -18,7 +17,7 @@ returns-then-place-len-clause-ok g c = λ r z e is has done is_deed who named no
     (c.in_ok-out.ensures.ok r z e c.args.dc is.parties.layout is.carried.grammar refl known (ap (λ (n : ℕ). n - 1) (sym dc)) is.parties.hosts.of_coords done is_deed has left told)
 
 pub returns-in_err-out-clause-grew : goal.returns-in_err-out-clause-grew
-returns-in_err-out-clause-grew g c = λ r can told. record { coords = c.in_err-out.ensures.grew r (coords_can_read _ _ can) told.coords; shards = told.shards }
+returns-in_err-out-clause-grew g c = λ r told. record { coords = c.in_err-out.ensures.grew r told.coords; shards = told.shards }
 
 pub returns-then-place-len-clause-grew : goal.returns-then-place-len-clause-grew
-returns-then-place-len-clause-grew g c = λ r can told. record { coords = c.in_ok-out.ensures.grew r (coords_can_read _ _ can) told.coords; shards = told.shards }
+returns-then-place-len-clause-grew g c = λ r told. record { coords = c.in_ok-out.ensures.grew r told.coords; shards = told.shards }

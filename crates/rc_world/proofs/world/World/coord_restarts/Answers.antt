@@ -13,7 +13,7 @@ returns-in_ok-coord_starts-in-Some-clause-ok g c = λ r z is fits down left told
     (c.in_ok-coord_starts-in-Some.ensures.ok r z c.args.dc refl (sym is.parties.cluster) is.parties.layout known c.in-Some.ensures.place down is.parties.hosts.of_coords left told.coords)
 
 pub returns-in_ok-coord_starts-in-Some-clause-grew : goal.returns-in_ok-coord_starts-in-Some-clause-grew
-returns-in_ok-coord_starts-in-Some-clause-grew g c = λ r can told. record { coords = c.in_ok-coord_starts-in-Some.ensures.grew r can.coords told.coords; shards = told.shards }
+returns-in_ok-coord_starts-in-Some-clause-grew g c = λ r told. record { coords = c.in_ok-coord_starts-in-Some.ensures.grew r told.coords; shards = told.shards }
 
 pub returns-in_err-coord_starts-in-Some-clause-grew : goal.returns-in_err-coord_starts-in-Some-clause-grew
-returns-in_err-coord_starts-in-Some-clause-grew g c = λ r can told. record { coords = c.in_err-coord_starts-in-Some.ensures.grew r can.coords told.coords; shards = told.shards }
+returns-in_err-coord_starts-in-Some-clause-grew g c = λ r told. record { coords = c.in_err-coord_starts-in-Some.ensures.grew r told.coords; shards = told.shards }

@@ -2,7 +2,7 @@ use Rattle.std.proofs.Common.{List, false, sym, ◌∙◌, ap}
 use Rattle.std.specs.Prelude.{if◌then◌else◌}
 use Rattle.rc_ids.specs.Cluster.{is_dc}
 use Rattle.rc_protocol.specs.Nodes.{coord_index, shard_index}
-use Rattle.rc_world.specs.Hosts.{is_up_at}
+use Rattle.rc_begin.specs.Hosts.{is_up_at}
 use Rattle.rc_ids.specs.declared.names.NodeId.{NodeId}
 use Rattle.rc_runs.specs.World.{is_up, is_shard_of}
 use Rattle.rc_world.specs.Words.{parts_of}

@@ -4,7 +4,6 @@ use Rattle.rc_ids.specs.declared.names.NodeId.TheVariants.{Shard as ShardServer}
 use Rattle.rc_protocol.specs.Nodes.{shard_index}
 use Rattle.rc_runs.specs.World.{is_shard_of}
 use Rattle.rc_world.proofs.Noded.{shards_did}
-use Rattle.rc_world.proofs.Powered.{shards_can_read}
 use Rattle.rc_world.proofs.world.World.shard_does.Goals as goal
 
 pub returns-then-place-len-clause-ok : goal.returns-then-place-len-clause-ok
@@ -16,7 +15,7 @@ returns-then-place-len-clause-ok g c = λ r z e is has done is_deed who named no
     (c.in_ok-out.ensures.ok r z e c.args.dc c.args.shard (sym cluster) is.parties.layout is.carried.grammar refl there spot is.parties.hosts.of_shards done is_deed has left told)
 
 pub returns-in_err-out-clause-grew : goal.returns-in_err-out-clause-grew
-returns-in_err-out-clause-grew g c = λ r can told. record { coords = told.coords; shards = c.in_err-out.ensures.grew r (shards_can_read _ _ can) told.shards }
+returns-in_err-out-clause-grew g c = λ r told. record { coords = told.coords; shards = c.in_err-out.ensures.grew r told.shards }
 
 pub returns-then-place-len-clause-grew : goal.returns-then-place-len-clause-grew
-returns-then-place-len-clause-grew g c = λ r can told. record { coords = told.coords; shards = c.in_ok-out.ensures.grew r (shards_can_read _ _ can) told.shards }
+returns-then-place-len-clause-grew g c = λ r told. record { coords = told.coords; shards = c.in_ok-out.ensures.grew r told.shards }

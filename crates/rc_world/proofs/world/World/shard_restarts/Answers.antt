@@ -17,7 +17,7 @@ returns-in_ok-shard_starts-in-Some-clause-ok g c = λ r z is fits down left told
     (c.in_ok-shard_starts-in-Some.ensures.ok r z c.args.dc c.args.shard refl (sym is.parties.cluster) is.parties.layout known spot down is.parties.hosts.of_shards left told.shards)
 
 pub returns-in_ok-shard_starts-in-Some-clause-grew : goal.returns-in_ok-shard_starts-in-Some-clause-grew
-returns-in_ok-shard_starts-in-Some-clause-grew g c = λ r can told. record { coords = told.coords; shards = c.in_ok-shard_starts-in-Some.ensures.grew r can.shards told.shards }
+returns-in_ok-shard_starts-in-Some-clause-grew g c = λ r told. record { coords = told.coords; shards = c.in_ok-shard_starts-in-Some.ensures.grew r told.shards }
 
 pub returns-in_err-shard_starts-in-Some-clause-grew : goal.returns-in_err-shard_starts-in-Some-clause-grew
-returns-in_err-shard_starts-in-Some-clause-grew g c = λ r can told. record { coords = told.coords; shards = c.in_err-shard_starts-in-Some.ensures.grew r can.shards told.shards }
+returns-in_err-shard_starts-in-Some-clause-grew g c = λ r told. record { coords = told.coords; shards = c.in_err-shard_starts-in-Some.ensures.grew r told.shards }

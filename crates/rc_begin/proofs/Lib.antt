@@ -1,0 +1,7 @@
+pub mod Lists
+pub mod LogSteps
+pub mod LogOrders
+pub mod StartFacts
+pub mod Gathered
+pub mod GatheredMore
+pub mod Serving

@@ -1,0 +1,41 @@
+use Rattle.std.proofs.Common.{ℕ, ◌-◌, [], ◌∷◌, ◌++◌, length, ap, ◌∙◌}
+use Rattle.std.proofs.lemmas.Result.{on_ok_weaker}
+use Rattle.rc_ids.specs.declared.names.NodeId.TheVariants.{Coord, Shard as ShardServer}
+use Rattle.rc_begin.specs.Gatherings.{are_lent}
+use Rattle.rc_begin.proofs.Serving.{all_same, lendable_still, dc_serves, not_more, one_lent, none_lent}
+use Rattle.rc_begin.proofs.dcs_begin.begin_dc.Goals as goal
+
+pub returns-clause-ok : goal.returns-clause-ok
+returns-clause-ok g c =
+    λ r p nodes same place long lend lends are coords_told shards_told.
+    on_ok_weaker c.begin_shards.result (dc_serves _ r p c.args.cluster.now nodes c.args.dc _ _ _ _)
+    (c.begin_shards.ensures.ok r p (nodes ++ Coord c.args.dc ∷ []) same (ap length c.begin_coord.ensures.rest ∙ long)
+    (λ sh known.
+    lendable_still p r (g.F.Farm.stands c.args.farm.now) (g.F.Farm.stands c.begin_coord.new.farm) (ShardServer c.args.dc sh)
+    (c.begin_coord.ensures.others (ShardServer c.args.dc sh) (λ e. cc)) (lends sh known))
+    (c.in_ok-begin_coord.ensures.ok r p nodes same place lend.lends lend.starts are
+    (all_same _ c.begin_shards.new.all.coords.items c.begin_coord.new.all.coords.items c.begin_shards.ensures.rest coords_told))
+    shards_told)
+
+pub returns-in_err-begin_coord-clause-lent : goal.returns-in_err-begin_coord-clause-lent
+returns-in_err-begin_coord-clause-lent g c =
+    c.in_err-begin_coord.ensures.not_lent
+    ∙ not_more (length c.args.all.now.coords.items) (length c.begin_coord.new.all.coords.items) (ap length c.in_err-begin_coord.ensures.kept)
+
+pub returns-in_err-begin_coord-clause-lent_shards : goal.returns-in_err-begin_coord-clause-lent_shards
+returns-in_err-begin_coord-clause-lent_shards g c =
+    λ sh.
+    c.begin_coord.ensures.others_lent (ShardServer c.args.dc sh) (λ e. cc) ∙ c.requires.free_shards sh
+    ∙ none_lent (length c.args.all.now.shards.items) (length c.begin_coord.new.all.shards.items) sh (ap length c.begin_coord.ensures.rest)
+
+pub returns-clause-lent : goal.returns-clause-lent
+returns-clause-lent g c =
+    c.begin_shards.ensures.others_lent (Coord c.args.dc) (λ sh e. cc) ∙ c.in_ok-begin_coord.ensures.lent
+    ∙ one_lent (length c.args.all.now.coords.items) (length c.begin_shards.new.all.coords.items)
+    (ap length c.begin_shards.ensures.rest ∙ c.in_ok-begin_coord.ensures.more)
+
+pub returns-clause-lent_shards : goal.returns-clause-lent_shards
+returns-clause-lent_shards g c =
+    λ sh.
+    c.begin_shards.ensures.lent sh
+    ∙ ap (λ (n : ℕ). are_lent (length c.begin_shards.new.all.shards.items - n) sh) (ap length c.begin_coord.ensures.rest)

@@ -1,6 +1,0 @@
-use Rattle.std.proofs.Common.{◌≡◌, drop}
-use Rattle.rc_world.specs.Logs.{names_of}
-use Rattle.rc_world.proofs.named.add_all.Given as goal
-
-abbrev pub invariant-loop-place : goal.invariant-loop-place
-invariant-loop-place l = names_of l.named.keys (drop l.place l.logs) ≡ names_of l.initial.named.keys l.logs
