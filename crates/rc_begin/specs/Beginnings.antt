@@ -1,5 +1,5 @@
 -- How a node of a world begins, on a disk that its farm lends.
-use Rattle.std.specs.Prelude.{◌≡◌, ◌<◌, ◌≤◌, ◌+◌, ◌-◌, ◌^◌, ◌⊎◌, ◌++◌, ℕ, min, List, [], ◌∷◌, Some, Err, Result}
+use Rattle.std.specs.Prelude.{◌≡◌, ◌≤◌, ◌+◌, ◌-◌, ◌^◌, ◌⊎◌, ◌++◌, ℕ, min, List, [], ◌∷◌, Some, IfSome, Err, Result}
 use Rattle.rc_ids.specs.declared.names.NodeId.{NodeId}
 use Rattle.rc_disk.specs.declared.power.Power.TheVariants.{On}
 use Rattle.rc_disk.specs.declared.farm.DeviceRefusal.{DeviceRefusal}
@@ -25,13 +25,12 @@ use Rattle.rc_begin.specs.declared.fault.WorldFault.TheVariants.{NoMemory, Farm,
 pub record IsStartOf (p : Place) (run : Run) (s : Standing) : Type 0 where
   pub told : Told
   pub tells : s.told ≡ Some told
-  pub content : s.content ≡ Some (p.content run.node)
+  pub content : IfSome s.content (λ bytes. p.content run.node ≡ bytes)
   pub on : s.power ≡ On
   pub calls : told.numbers.calls ≡ calls_at run.begun
   pub reads : told.reads.made ≡ reads_at run.begun
   pub failed : AreWithin told.numbers.calls told.numbers.failed
   pub failed_reads : AllWithin told.reads.made told.reads.failed
-  pub left : told.reads.made < 2 ^ 64 - 1
   pub failing : p.failing run.node ≡ numbers_since (calls_at run.begun) (failed_by is_by_list run.ended.numbers.failed)
   pub failing_reads : p.failing_reads run.node ≡ numbers_since (reads_at run.begun) run.ended.reads.failed
 
@@ -52,7 +51,7 @@ abbrev pub HasRisen : ℕ → ℕ → Type 0
 HasRisen before now = min (before + 1) (2 ^ 64 - 1) ≤ now
 
 -- why a node did not begin, as the run says it where the farm lends its disk; or the farm failed, with these counts of faults before and after
-abbrev pub BeginRefused : ℕ → ℕ → Result Begun Halt → WorldFault → Type 0
+abbrev pub BeginRefused : {A : Type 0} → ℕ → ℕ → Result A Halt → WorldFault → Type 0
 BeginRefused before after begins NoMemory = Unit {0}
 BeginRefused before after begins Farm = HasRisen before after ⊎ (begins ≡ Err FarmFails)
 BeginRefused before after begins (Log node fault) = begins ≡ Err (LogRefused node fault)

@@ -5,3 +5,4 @@ pub mod Wells
 pub mod Logs
 pub mod Beginnings
 pub mod Gatherings
+pub mod Starts
