@@ -166,4 +166,8 @@ impl LockTable for Locks {
     fn prepared(&self, tx: TxId) -> Option<&Body> {
         halves::find(&self.parts, tx)
     }
+
+    fn parts(&self) -> &[Prepared] {
+        self.parts.as_slice()
+    }
 }

@@ -21,6 +21,7 @@ mod tests;
 
 pub use answers::{Answer, Asked, Freed};
 pub use indexed::Locks;
+pub use parts::Prepared;
 pub use plain::PlainLocks;
 pub use run::{Answers, LockAnswer, LockCall, run_locks};
 pub use table::LockTable;

@@ -140,4 +140,8 @@ impl LockTable for PlainLocks {
     fn prepared(&self, tx: TxId) -> Option<&Body> {
         parts::find(&self.parts, tx)
     }
+
+    fn parts(&self) -> &[Prepared] {
+        self.parts.as_slice()
+    }
 }

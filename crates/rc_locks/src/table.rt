@@ -7,7 +7,7 @@ ghost use Rattle.rc_body.specs.declared.entry.Entry.{Entry};
 ghost use Rattle.rc_protocol.specs.Shard as shard_spec;
 ghost use Rattle.rc_locks.specs.LockSets.{LockSets, no_locks, only_parts, asked, after_ask, after_cancel, waiting_for, tested, MayBePrepared, after_prepare, without_all, freed, after_finish};
 
-use crate::{Answer, Asked, Freed};
+use crate::{Answer, Asked, Freed, Prepared};
 use rc_body::{Body, Parts};
 use rc_ids::{Key, NoMemory, TxId};
 use rc_versions::Versions;
@@ -91,4 +91,8 @@ pub trait LockTable: Drop {
     /// The part of the transaction, where it is prepared here.
     fn prepared(&self, tx: TxId) -> Option<&Body>
         ensures { option_copied result ≡ found nat_cmp (state self.now).parts tx };
+
+    /// The transactions that are prepared here, each with its part, in the order of the transactions.
+    fn parts(&self) -> &[Prepared]
+        ensures { result.now ≡ (state self.now).parts };
 }

@@ -17,7 +17,7 @@ use crate::home::Home;
 use crate::starting::tables_of;
 use crate::tables::Tables;
 use rc_ids::{Cluster, DcId, Key, NoMemory, NodeId, Party, ShardId, TxId};
-use rc_locks::{LockTable, Locks};
+use rc_locks::{LockTable, Locks, Prepared};
 use rc_log::Journal;
 use rc_msg::{Msg, Outbox};
 use rc_node::NodeFault;
@@ -177,6 +177,13 @@ impl<J: Journal, L: LockTable> Shard<J, L> {
         ensures { result ≡ holder_of self.now.durable.parts key.now }
     {
         self.tables.locks.holder(key)
+    }
+
+    /// The transactions that are prepared here, each with its part, in the order of the transactions.
+    pub fn parts(&self) -> &[Prepared]
+        ensures { result.now ≡ self.now.durable.parts }
+    {
+        self.tables.locks.parts()
     }
 
     /// Does what this shard server does at a message: its record is in the journal before its state changes and before anything is
