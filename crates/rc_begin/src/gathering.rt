@@ -4,7 +4,9 @@ ghost use Rattle.std.specs.List.{list_all};
 ghost use Rattle.rc_ids.specs.declared.names.NodeId.{NodeId as NodeName};
 ghost use Rattle.rc_runs.specs.Stored.{Place, begins_node};
 ghost use Rattle.rc_devices.specs.Disks.{IsKept};
-ghost use Rattle.rc_host.specs.Hosts.{Run, IfUp, IsThere, sight};
+ghost use Rattle.rc_disk.specs.declared.power.Power.TheVariants.{On};
+ghost use Rattle.rc_disk.specs.Calls.{Told};
+ghost use Rattle.rc_host.specs.Hosts.{Run, IfUp, IsThere, IsToldBy, sight};
 ghost use Rattle.rc_begin.specs.declared.fault.WorldFault.TheVariants.{NoMemory as OutOfMemory};
 ghost use Rattle.rc_begin.specs.Wells.{is_well};
 ghost use Rattle.rc_begin.specs.Beginnings.{IsStartOf, IsNext, BeginRefused};
@@ -26,6 +28,8 @@ pub fn give_back<F: Farm, N: Node<Log<F::D>>>(
     requires there { IsThere host }
     requires lent { F.is_lent farm.old node ≡ true }
     ensures lent { F.is_lent farm.new node ≡ false }
+    ensures told { (ended : Told) → IfSome (F.stands farm.new node).told (λ t. IsKept t ended) → IsToldBy (sight N.seen ⟦<Log<F::D> as Journal>⟧.state F.D.told F.D.content F.D.power) host ended }
+    ensures on { (F.stands farm.new node).power ≡ On }
     ensures others_lent { (n : NodeName) → n ≢ node → F.is_lent farm.new n ≡ F.is_lent farm.old n }
     ensures others { (n : NodeName) → n ≢ node → F.stands farm.new n ≡ F.stands farm.old n }
     ensures start { (n : NodeName) → F.start farm.new n ≡ F.start farm.old n }

@@ -2,6 +2,7 @@
 #![tactic(auto)]
 
 mod beginning;
+mod closing;
 mod dcs_begin;
 mod fault;
 mod gathering;
@@ -10,6 +11,7 @@ mod named;
 mod nodes_begin;
 mod orders;
 
+pub use closing::{give_coords_back, give_shards_back};
 pub use dcs_begin::begin_dc;
 pub use fault::WorldFault;
 pub use gathering::give_back;
