@@ -2,6 +2,6 @@ pub mod Lists
 pub mod LogSteps
 pub mod LogOrders
 pub mod StartFacts
-pub mod Gathered
-pub mod GatheredMore
+pub mod Behind
+pub mod BehindMore
 pub mod Serving

@@ -2,7 +2,7 @@ use Rattle.std.proofs.Common.{refl}
 use Rattle.std.proofs.lemmas.Result.{on_ok_weaker}
 use Rattle.rc_ids.specs.declared.names.NodeId.TheVariants.{Shard as ShardServer}
 use Rattle.rc_begin.specs.Hosts.{run_at}
-use Rattle.rc_begin.proofs.GatheredMore.{shard_more}
+use Rattle.rc_begin.proofs.BehindMore.{shard_more}
 use Rattle.rc_begin.proofs.nodes_begin.begin_shard.Goals as goal
 
 pub returns-clause-ok : goal.returns-clause-ok

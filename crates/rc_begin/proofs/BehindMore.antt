@@ -16,7 +16,7 @@ use Rattle.rc_begin.specs.Beginnings.{IsNext}
 use Rattle.rc_begin.specs.Places.{coord_name, shard_name, AreAt}
 use Rattle.rc_begin.specs.Hosts.{Runs, Views, run_at, IsCoord, IsShard, CoordsAreTold, ShardsAreTold}
 use Rattle.rc_begin.specs.Gatherings.{AreGathered, coord_devices, shard_devices}
-use Rattle.rc_begin.proofs.Gathered.{one_behind, all_end, begins_more, begun_named}
+use Rattle.rc_begin.proofs.Behind.{one_behind, all_end, begins_more, begun_named}
 
 -- WHAT IS MADE of a node more, for each kind
 module _ {Y : Type 0} (of : Begun → Y) (xs : List Begun) (x : Begun) where
