@@ -1,5 +1,5 @@
 -- What the log of a node that begins gives it, and the head that it owes.
-use Rattle.std.proofs.Common.{◌≡◌, ℕ, ◌+◌, ◌≤◌, List, [], ◌∷◌, ◌++◌, Bool, true, false, cond, Option, Some, None, option_map, IfSome, Result, Ok, Err, length, refl, sym, ap, ◌∙◌, subst, arith, append-nil, length-append}
+use Rattle.std.proofs.Common.{◌≡◌, ℕ, ◌+◌, ◌-◌, ◌^◌, ◌≤◌, ◌<◌, List, [], ◌∷◌, ◌++◌, Bool, true, false, cond, Option, Some, None, option_map, IfSome, Result, Ok, Err, length, refl, sym, ap, ◌∙◌, subst, arith, append-nil, length-append}
 use Rattle.std.specs.Prelude.{◌≢◌}
 use Rattle.rc_ids.specs.Cluster.{Layout}
 use Rattle.rc_ids.specs.Tables.{maybe}
@@ -39,12 +39,14 @@ done_stays : (place : ℕ) (r : List ℕ) (t ended : Told) → IsKept (all_done 
 done_stays place r t ended kept = record {
   calls = record { since = kept.calls.since; all = kept.calls.all; above = above_less t.numbers.calls (t.numbers.calls + 1 + 1 + 1 + 1) kept.calls.since kept.calls.above (omega arith) };
   reads = kept.reads;
+  left = kept.left;
 }
 
 failed_stays : (call : ℕ) (cause : Cause) (calls : List Call) (t ended : Told) → 1 ≤ call → (stopped_at call calls t).numbers ≡ stopped_by call cause t.numbers → IsKept (stopped_at call calls t) ended → IsKept t ended
 failed_stays call cause calls t ended low numbers kept = record {
   calls = fault_stays t.numbers.calls call t.numbers.failed ended.numbers.failed cause low (subst (λ (n : Numbers). AreKept n.calls n.failed ended.numbers.failed) numbers kept.calls);
   reads = subst (λ (r : Reads). ReadsAreKept r.made r.failed ended.reads.failed) (stopped_reads call calls t) kept.reads;
+  left = subst (λ (r : Reads). r.made < 2 ^ 64 - 1) (stopped_reads call calls t) kept.left;
 }
 
 -- over logs that tell what they tell, if they do
@@ -224,4 +226,4 @@ module _ {A : Type 0} (gives : A → NodeDurable) (replayed : NodeId → Layout 
 
 -- the power of a disk is on again
 pub closed_kept : (before now : Option Told) (ended : Told) → now ≡ option_map powered_disk before → IfSome now (λ t. IsKept t ended) → IfSome before (λ t. IsKept t ended)
-closed_kept before now ended is kept = told_as powered_disk before now ended is (λ t has k. record { calls = k.calls; reads = k.reads }) kept
+closed_kept before now ended is kept = told_as powered_disk before now ended is (λ t has k. record { calls = k.calls; reads = k.reads; left = k.left }) kept
