@@ -58,21 +58,23 @@ told_as : (step : Told → Told) → (before now : Option Told) (ended : Told) �
 told_as step None now ended is law kept = tt
 told_as step (Some t) now ended is law kept = law t refl (subst (λ (o : Option Told). IfSome o (λ u. IsKept u ended)) is kept)
 
+-- after calls of which the last failed
+pub stopped_stays : (call : ℕ) (cause : Cause) (calls : List Call) (before now : Option Told) (ended : Told) → 1 ≤ call → now ≡ option_map (stopped_at call calls) before → numbers_of now ≡ option_map (stopped_by call cause) (numbers_of before)
+    → IfSome now (λ t. IsKept t ended) → IfSome before (λ t. IsKept t ended)
+stopped_stays call cause calls before now ended low whole numbers kept =
+    told_as (stopped_at call calls) before now ended whole (λ t is. failed_stays call cause calls t ended low (numbers_in t is)) kept
+  where
+    numbers_in : (t : Told) → before ≡ Some t → (stopped_at call calls t).numbers ≡ stopped_by call cause t.numbers
+    numbers_in t is =
+        some_inj (stopped_at call calls t).numbers (stopped_by call cause t.numbers)
+        (sym (ap numbers_of (whole ∙ ap (option_map (stopped_at call calls)) is)) ∙ numbers ∙ ap (λ (o : Option Told). option_map (stopped_by call cause) (numbers_of o)) is)
+
 pub enters_stay : (old new : State) (r : List ℕ) (ended : Told) → Enters old new r → Stays old new ended
 enters_stay old new r ended enters kept = told_as (all_done (append_calls old.size r)) old.told new.told ended enters.adds.calls (λ t is. done_stays old.size r t ended) kept
 
 pub fails_stay : (old new : State) (r : List ℕ) (ended : Told) → Fails old new r → Stays old new ended
 fails_stay old new r ended fails kept =
-    let call = fails.calls.call in
-    let calls = append_calls old.size r in
-    told_as (stopped_at call calls) old.told new.told ended fails.calls.whole_state
-    (λ t is. failed_stays call fails.calls.cause calls t ended fails.calls.low (numbers_in t call fails.calls.cause calls old.told new.told is fails.calls.whole_state fails.calls.numbers)) kept
-  where
-    numbers_in : (t : Told) (call : ℕ) (cause : Cause) (calls : List Call) (before now : Option Told) → before ≡ Some t → now ≡ option_map (stopped_at call calls) before → numbers_of now ≡ option_map (stopped_by call cause) (numbers_of before)
-        → (stopped_at call calls t).numbers ≡ stopped_by call cause t.numbers
-    numbers_in t call cause calls before now is whole numbers =
-        some_inj (stopped_at call calls t).numbers (stopped_by call cause t.numbers)
-        (sym (ap numbers_of (whole ∙ ap (option_map (stopped_at call calls)) is)) ∙ numbers ∙ ap (λ (o : Option Told). option_map (stopped_by call cause) (numbers_of o)) is)
+    stopped_stays fails.calls.call fails.calls.cause (append_calls old.size r) old.told new.told ended fails.calls.low fails.calls.whole_state fails.calls.numbers kept
 
 same_stays : (old new : State) (ended : Told) → new ≡ old → Stays old new ended
 same_stays old new ended same kept = subst (λ (z : State). IsTold z ended) same kept
