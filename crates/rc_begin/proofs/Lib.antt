@@ -5,3 +5,4 @@ pub mod StartFacts
 pub mod Behind
 pub mod BehindMore
 pub mod Serving
+pub mod Haves

@@ -1,9 +1,11 @@
 -- What the logs of nodes that begin say, blob by blob.
 use Rattle.std.specs.Prelude.{ℕ, suc, List, [], ◌∷◌}
+use Rattle.std.specs.List.{AllByRecursion}
 use Rattle.rc_ids.specs.Tables.{maybe}
 use Rattle.rc_ids.specs.Cluster.{Layout}
 use Rattle.rc_body.specs.declared.entry.Entry.{Entry}
 use Rattle.rc_record.specs.Reading.{decoded}
+use Rattle.rc_record.specs.Spelling.{HasRecord}
 use Rattle.rc_record.specs.declared.record.Record.{Record}
 use Rattle.rc_protocol.specs.Nodes.{CoordNode, with_log as with_names}
 use Rattle.rc_runs.specs.Starts.{with_choices}
@@ -14,6 +16,10 @@ use Rattle.rc_order.specs.Logs.{with_log}
 -- the record that the bytes spell, unless that is a head
 abbrev pub records_in : List ℕ → List Record
 records_in bytes = maybe (decoded bytes) [] without_head
+
+-- each record of each log has a spelling
+abbrev pub HaveRecords : List (List (List ℕ)) → Type 0
+HaveRecords logs = AllByRecursion (λ (log : List (List ℕ)). AllByRecursion HasRecord (records_of log)) logs
 
 -- the votes of the logs, the first that of d
 abbrev pub with_blobs : Votes → ℕ → List (List (List ℕ)) → Votes
