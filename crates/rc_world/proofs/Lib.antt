@@ -34,3 +34,4 @@ pub mod Weighing
 pub mod Powered
 pub mod Causing
 pub mod ReadsLeft
+pub mod Started

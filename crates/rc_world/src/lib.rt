@@ -8,6 +8,7 @@ mod events;
 mod mail;
 mod nodes;
 mod noting;
+mod opening;
 mod places;
 mod powering;
 mod receiving;
