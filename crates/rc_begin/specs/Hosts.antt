@@ -1,5 +1,5 @@
 -- The nodes of a world on their hosts.
-use Rattle.std.specs.Prelude.{◌≡◌, ◌<◌, ◌+◌, ◌-◌, ◌^◌, ℕ, Bool, false, List, slice_get, Option, Some, IfSome}
+use Rattle.std.specs.Prelude.{◌≡◌, ℕ, Bool, false, List, slice_get, Option, Some}
 use Rattle.rc_ids.specs.Tables.{maybe}
 use Rattle.rc_ids.specs.Cluster.{Layout}
 use Rattle.rc_ids.specs.declared.names.NodeId.{NodeId}
@@ -13,12 +13,10 @@ use Rattle.rc_record.specs.CoordState.{new_durable as new_coord_durable}
 use Rattle.rc_record.specs.ShardState.{new_durable as new_shard_durable}
 use Rattle.rc_protocol.specs.Nodes.{CoordNode, ShardNode, coord_replayed, shard_replayed}
 use Rattle.rc_runs.specs.Devices.{Device}
-use Rattle.rc_runs.specs.Farms.{reads_at}
 use Rattle.rc_runs.specs.World.{Parties}
 use Rattle.rc_host.specs.AnyNode.{coord_seen, shard_seen, coord_back, shard_back}
 use Rattle.rc_host.specs.Standing.{coord_standing, shard_standing}
 use Rattle.rc_host.specs.Hosts.{Sight, sight, Run, IsHost, IsToldBy, is_up}
-use Rattle.rc_host.specs.Disks.{told_by}
 use Rattle.rc_host.specs.declared.host.Host.{Host}
 use Rattle.rc_begin.specs.Places.{coord_name, shard_name, AreAt, AllAt}
 
@@ -63,7 +61,3 @@ CoordsAreTold s r coords = AllAt (λ place h. IsToldBy s h (r.ended (coord_name 
 
 abbrev pub ShardsAreTold : {S J D : Type 0} → Sight S J D → Runs → List (Host S J D) → Type 0
 ShardsAreTold s r shards = AllAt (λ place h. IsToldBy s h (r.ended (shard_name r.cluster place))) shards
-
--- no disk's count of reads is full
-abbrev pub HaveReadsLeft : Runs → (ℕ → NodeId) → List Device → Type 0
-HaveReadsLeft r name devices = (place : ℕ) (d : Device) → slice_get devices place ≡ Some d → reads_at (r.begun (name place)) + d.reads < 2 ^ 64 - 1

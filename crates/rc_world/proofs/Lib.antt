@@ -33,5 +33,4 @@ pub mod ShardStops
 pub mod Weighing
 pub mod Powered
 pub mod Causing
-pub mod ReadsLeft
 pub mod Started
