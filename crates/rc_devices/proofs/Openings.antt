@@ -20,6 +20,7 @@ use Rattle.rc_devices.proofs.Numbers.{within_more}
 use Rattle.rc_devices.proofs.ReadNumbers.{reads_are, number_in_both, number_not_within, number_not_above, all_within_more}
 use Rattle.rc_devices.proofs.Rows.{no_fault, next_is_told, called_shown, all_made, failure, same_reads, same_read_list}
 use Rattle.rc_devices.proofs.Appends.{some_inj, stops}
+use Rattle.rc_devices.proofs.Staying.{one_read_more}
 
 pub cuts_are_devices : (begun : Start) (ended : Told) (d : Device) → CutsAreDevices begun ended d
 cuts_are_devices begun ended d = record {
@@ -44,10 +45,6 @@ cuts_are_devices begun ended d = record {
 }
 
 -- READS
--- a count of reads that is not full rises by one
-one_more : (made : ℕ) → made < 2 ^ 64 - 1 → raised made ≡ made + 1
-one_more made few = grind arith
-
 next_read : (begun : Start) (ended : List ℕ) (made : ℕ) (failed : List ℕ) (d : Device) → ReadsAreShown begun ended made failed d → read_fails d ≡ is_number (made + 1) ended
 next_read begun ended made failed d shown =
     let n : ℕ = d.reads in
@@ -70,10 +67,10 @@ read_fault begun ended made failed d shown kept =
 abbrev read_or_not : Device → Bool → Option Device
 read_or_not d fails = cond fails None (Some (read_once (called d)))
 
-module _ (begun : Start) (ended told : Told) (d : Device) (is : IsDisk begun ended told On d) (few : told.reads.made < 2 ^ 64 - 1) where
+module _ (begun : Start) (ended told : Told) (d : Device) (is : IsDisk begun ended told On d) where
   pub opens : IsKept (synced_and_read true told) ended → (opened d ≡ Some (read_once (called d))) × IsDisk begun ended (synced_and_read true told) On (read_once (called d))
   opens kept =
-      let raises = one_more told.reads.made few in
+      let raises = one_read_more told.reads.made kept.left in
       let none = no_fault begun ended.numbers.failed told.numbers.calls (told.numbers.calls + 1) told.numbers.failed On d is.calls refl (omega arith) kept.calls in
       let reads_kept : ReadsAreKept (told.reads.made + 1) told.reads.failed ended.reads.failed = subst (λ (m : ℕ). ReadsAreKept m told.reads.failed ended.reads.failed) raises kept.reads in
       let reads = no_read_fault begun ended.reads.failed told.reads.made told.reads.failed d is.reads reads_kept in
@@ -102,22 +99,23 @@ module _ (begun : Start) (ended told : Told) (d : Device) (is : IsDisk begun end
   fails_at_read now numbers reads kept =
       let calls : AreKept (told.numbers.calls + 1) told.numbers.failed ended.numbers.failed = subst (λ (x : Numbers). AreKept x.calls x.failed ended.numbers.failed) numbers kept.calls in
       let none = no_fault begun ended.numbers.failed told.numbers.calls (told.numbers.calls + 1) told.numbers.failed On d is.calls refl (omega arith) calls in
+      let left : raised told.reads.made < 2 ^ 64 - 1 = subst (λ (x : Reads). x.made < 2 ^ 64 - 1) reads kept.left in
       let reads_kept : ReadsAreKept (told.reads.made + 1) (told.reads.failed ++ (told.reads.made + 1) ∷ []) ended.reads.failed =
-      subst (λ (m : ℕ). ReadsAreKept m (told.reads.failed ++ m ∷ []) ended.reads.failed) (one_more told.reads.made few) (subst (λ (x : Reads). ReadsAreKept x.made x.failed ended.reads.failed) reads kept.reads) in
+      subst (λ (m : ℕ). ReadsAreKept m (told.reads.failed ++ m ∷ []) ended.reads.failed) (one_read_more told.reads.made left) (subst (λ (x : Reads). ReadsAreKept x.made x.failed ended.reads.failed) reads kept.reads) in
       ap (λ (o : Option Cause). maybe o (read_or_not d (read_fails d)) (λ cause. None)) none ∙ ap (read_or_not d) (read_fault begun ended.reads.failed told.reads.made told.reads.failed d is.reads reads_kept)
 
 -- the call that failed is the sync or the read
-by_call : (begun : Start) (ended told : Told) (d : Device) → IsDisk begun ended told On d → told.reads.made < 2 ^ 64 - 1 → (now : Told) (call : ℕ) (cause : Cause) → 1 ≤ call → call ≤ 2 → cause ≡ refusal_cause call On
+by_call : (begun : Start) (ended told : Told) (d : Device) → IsDisk begun ended told On d → (now : Told) (call : ℕ) (cause : Cause) → 1 ≤ call → call ≤ 2 → cause ≡ refusal_cause call On
     → now.numbers ≡ numbers_refused call cause told.numbers → now.reads ≡ reads_refused call On told.reads → IsKept now ended → opened d ≡ None
-by_call begun ended told d is few now zero cause low high reason numbers reads kept = absurd (omega (arith, low))
-by_call begun ended told d is few now (suc zero) cause low high reason numbers reads kept = fails_at_sync begun ended told d is few now cause reason numbers kept
-by_call begun ended told d is few now (suc (suc n)) cause low high reason numbers reads kept = fails_at_read begun ended told d is few now numbers reads kept
+by_call begun ended told d is now zero cause low high reason numbers reads kept = absurd (omega (arith, low))
+by_call begun ended told d is now (suc zero) cause low high reason numbers reads kept = fails_at_sync begun ended told d is now cause reason numbers kept
+by_call begun ended told d is now (suc (suc n)) cause low high reason numbers reads kept = fails_at_read begun ended told d is now numbers reads kept
 
 pub openings_are_devices : (begun : Start) (ended told : Told) (d : Device) → IsDisk begun ended told On d → OpeningsAreDevices begun ended told d
 openings_are_devices begun ended told d is = record {
-  done = λ few kept. opens begun ended told d is few kept;
-  failed = λ len now power power_now faults faults_now cuts cuts_now few on fails kept.
-      by_call begun ended told d is few now fails.call fails.cause fails.low fails.high (fails.reason ∙ ap (refusal_cause fails.call) on) (some_inj now.numbers (numbers_refused fails.call fails.cause told.numbers) fails.numbers)
+  done = opens begun ended told d is;
+  failed = λ len now power power_now faults faults_now cuts cuts_now on fails kept.
+      by_call begun ended told d is now fails.call fails.cause fails.low fails.high (fails.reason ∙ ap (refusal_cause fails.call) on) (some_inj now.numbers (numbers_refused fails.call fails.cause told.numbers) fails.numbers)
       (some_inj now.reads (reads_refused fails.call On told.reads) (fails.reads ∙ ap (λ (p : Power). Some (reads_refused fails.call p told.reads)) on)) kept;
 }
 

@@ -1,6 +1,6 @@
 -- A disk that tells its calls, as a device of a run in the place that is read off its farm at the end: the device's calls are those of the
 -- disk since the start, and its failing calls are those that the disk tells at the end.
-use Rattle.std.specs.Prelude.{◌≡◌, ◌<◌, ◌≤◌, ◌+◌, ◌++◌, ℕ, zero, suc, List, [], ◌∷◌, Option, None, Some, IfSome}
+use Rattle.std.specs.Prelude.{◌≡◌, ◌<◌, ◌≤◌, ◌+◌, ◌-◌, ◌^◌, ◌++◌, ℕ, zero, suc, List, [], ◌∷◌, Option, None, Some, IfSome}
 use Rattle.rc_disk.specs.declared.power.Power.{Power}
 use Rattle.rc_disk.specs.declared.power.Power.TheVariants.{On, Armed}
 use Rattle.rc_disk.specs.declared.power.Failure.{Failure}
@@ -44,10 +44,11 @@ pub record ReadsAreKept (made : ℕ) (failed ended : List ℕ) : Type 0 where
   pub all : ended ≡ failed ++ since
   pub above : AllAbove made since
 
--- what is told now is told at the end still
+-- what is told now is told at the end still, and the count of reads is not full
 pub record IsKept (now ended : Told) : Type 0 where
   pub calls : AreKept now.numbers.calls now.numbers.failed ended.numbers.failed
   pub reads : ReadsAreKept now.reads.made now.reads.failed ended.reads.failed
+  pub left : now.reads.made < 2 ^ 64 - 1
 
 -- THE DEVICE
 -- the calls of a disk, those that failed and its power

@@ -1,5 +1,5 @@
 -- What the calls of a log on a disk that tells them are to the devices of a run.
-use Rattle.std.specs.Prelude.{◌≡◌, ◌+◌, ◌-◌, ◌<◌, ◌^◌, ℕ, false, true, List, length, Option, None, Some, IfSome, if◌then◌else◌}
+use Rattle.std.specs.Prelude.{◌≡◌, ◌+◌, ℕ, false, true, List, length, Option, None, Some, IfSome, if◌then◌else◌}
 use Rattle.rc_disk.specs.declared.power.Cause.{Cause}
 use Rattle.rc_disk.specs.declared.power.Power.{Power}
 use Rattle.rc_disk.specs.declared.power.Power.TheVariants.{On}
@@ -44,10 +44,10 @@ pub record CutsAreDevices (begun : Start) (ended : Told) (d : Device) : Type 0 w
   pub ends : (told : Told) (power : Power) → IsDisk begun ended told power d → IsDisk begun ended (powered_disk told) On (powered d)
 
 -- OPENINGS
--- a disk that is opened is the device, unless its count of reads is full
+-- a disk that is opened is the device
 pub record OpeningsAreDevices (begun : Start) (ended told : Told) (d : Device) : Type 0 where
-  pub done : told.reads.made < 2 ^ 64 - 1 → IsKept (synced_and_read true told) ended → (opened d ≡ Some (read_once (called d))) × IsDisk begun ended (synced_and_read true told) On (read_once (called d))
-  pub failed : (len : ℕ) (now : Told) (power power_now : Power) (faults faults_now cuts cuts_now : ℕ) → told.reads.made < 2 ^ 64 - 1 → power ≡ On → FailsToOpen len (Some told) (Some now) power power_now faults faults_now cuts cuts_now
+  pub done : IsKept (synced_and_read true told) ended → (opened d ≡ Some (read_once (called d))) × IsDisk begun ended (synced_and_read true told) On (read_once (called d))
+  pub failed : (len : ℕ) (now : Told) (power power_now : Power) (faults faults_now cuts cuts_now : ℕ) → power ≡ On → FailsToOpen len (Some told) (Some now) power power_now faults faults_now cuts cuts_now
       → IsKept now ended → opened d ≡ None
 
 -- CREATIONS

@@ -1,5 +1,5 @@
 -- What the log of a node that begins gives it, and the head that it owes.
-use Rattle.std.proofs.Common.{◌≡◌, ℕ, ◌+◌, ◌≤◌, List, [], ◌∷◌, ◌++◌, Bool, true, false, cond, Option, Some, None, option_map, IfSome, Result, Ok, Err, length, refl, sym, ap, ◌∙◌, subst, arith, append-nil, length-append}
+use Rattle.std.proofs.Common.{◌≡◌, ℕ, ◌+◌, ◌-◌, ◌^◌, ◌≤◌, ◌<◌, List, [], ◌∷◌, ◌++◌, Bool, true, false, cond, Option, Some, None, option_map, IfSome, Result, Ok, Err, length, refl, sym, ap, ◌∙◌, subst, arith, append-nil, length-append}
 use Rattle.std.specs.Prelude.{◌≢◌}
 use Rattle.rc_ids.specs.Cluster.{Layout}
 use Rattle.rc_ids.specs.Tables.{maybe}
@@ -39,12 +39,14 @@ done_stays : (place : ℕ) (r : List ℕ) (t ended : Told) → IsKept (all_done 
 done_stays place r t ended kept = record {
   calls = record { since = kept.calls.since; all = kept.calls.all; above = above_less t.numbers.calls (t.numbers.calls + 1 + 1 + 1 + 1) kept.calls.since kept.calls.above (omega arith) };
   reads = kept.reads;
+  left = kept.left;
 }
 
 failed_stays : (call : ℕ) (cause : Cause) (calls : List Call) (t ended : Told) → 1 ≤ call → (stopped_at call calls t).numbers ≡ stopped_by call cause t.numbers → IsKept (stopped_at call calls t) ended → IsKept t ended
 failed_stays call cause calls t ended low numbers kept = record {
   calls = fault_stays t.numbers.calls call t.numbers.failed ended.numbers.failed cause low (subst (λ (n : Numbers). AreKept n.calls n.failed ended.numbers.failed) numbers kept.calls);
   reads = subst (λ (r : Reads). ReadsAreKept r.made r.failed ended.reads.failed) (stopped_reads call calls t) kept.reads;
+  left = subst (λ (r : Reads). r.made < 2 ^ 64 - 1) (stopped_reads call calls t) kept.left;
 }
 
 -- over logs that tell what they tell, if they do
@@ -56,21 +58,23 @@ told_as : (step : Told → Told) → (before now : Option Told) (ended : Told) �
 told_as step None now ended is law kept = tt
 told_as step (Some t) now ended is law kept = law t refl (subst (λ (o : Option Told). IfSome o (λ u. IsKept u ended)) is kept)
 
+-- after calls of which the last failed
+pub stopped_stays : (call : ℕ) (cause : Cause) (calls : List Call) (before now : Option Told) (ended : Told) → 1 ≤ call → now ≡ option_map (stopped_at call calls) before → numbers_of now ≡ option_map (stopped_by call cause) (numbers_of before)
+    → IfSome now (λ t. IsKept t ended) → IfSome before (λ t. IsKept t ended)
+stopped_stays call cause calls before now ended low whole numbers kept =
+    told_as (stopped_at call calls) before now ended whole (λ t is. failed_stays call cause calls t ended low (numbers_in t is)) kept
+  where
+    numbers_in : (t : Told) → before ≡ Some t → (stopped_at call calls t).numbers ≡ stopped_by call cause t.numbers
+    numbers_in t is =
+        some_inj (stopped_at call calls t).numbers (stopped_by call cause t.numbers)
+        (sym (ap numbers_of (whole ∙ ap (option_map (stopped_at call calls)) is)) ∙ numbers ∙ ap (λ (o : Option Told). option_map (stopped_by call cause) (numbers_of o)) is)
+
 pub enters_stay : (old new : State) (r : List ℕ) (ended : Told) → Enters old new r → Stays old new ended
 enters_stay old new r ended enters kept = told_as (all_done (append_calls old.size r)) old.told new.told ended enters.adds.calls (λ t is. done_stays old.size r t ended) kept
 
 pub fails_stay : (old new : State) (r : List ℕ) (ended : Told) → Fails old new r → Stays old new ended
 fails_stay old new r ended fails kept =
-    let call = fails.calls.call in
-    let calls = append_calls old.size r in
-    told_as (stopped_at call calls) old.told new.told ended fails.calls.whole_state
-    (λ t is. failed_stays call fails.calls.cause calls t ended fails.calls.low (numbers_in t call fails.calls.cause calls old.told new.told is fails.calls.whole_state fails.calls.numbers)) kept
-  where
-    numbers_in : (t : Told) (call : ℕ) (cause : Cause) (calls : List Call) (before now : Option Told) → before ≡ Some t → now ≡ option_map (stopped_at call calls) before → numbers_of now ≡ option_map (stopped_by call cause) (numbers_of before)
-        → (stopped_at call calls t).numbers ≡ stopped_by call cause t.numbers
-    numbers_in t call cause calls before now is whole numbers =
-        some_inj (stopped_at call calls t).numbers (stopped_by call cause t.numbers)
-        (sym (ap numbers_of (whole ∙ ap (option_map (stopped_at call calls)) is)) ∙ numbers ∙ ap (λ (o : Option Told). option_map (stopped_by call cause) (numbers_of o)) is)
+    stopped_stays fails.calls.call fails.calls.cause (append_calls old.size r) old.told new.told ended fails.calls.low fails.calls.whole_state fails.calls.numbers kept
 
 same_stays : (old new : State) (ended : Told) → new ≡ old → Stays old new ended
 same_stays old new ended same kept = subst (λ (z : State). IsTold z ended) same kept
@@ -224,4 +228,4 @@ module _ {A : Type 0} (gives : A → NodeDurable) (replayed : NodeId → Layout 
 
 -- the power of a disk is on again
 pub closed_kept : (before now : Option Told) (ended : Told) → now ≡ option_map powered_disk before → IfSome now (λ t. IsKept t ended) → IfSome before (λ t. IsKept t ended)
-closed_kept before now ended is kept = told_as powered_disk before now ended is (λ t has k. record { calls = k.calls; reads = k.reads }) kept
+closed_kept before now ended is kept = told_as powered_disk before now ended is (λ t has k. record { calls = k.calls; reads = k.reads; left = k.left }) kept

@@ -11,6 +11,7 @@ pub mod Logging
 pub mod CoordLogging
 pub mod Restarting
 pub mod Beginning
+pub mod BeginGrown
 pub mod Starting
 pub mod StandingFacts
 pub mod Rejoining

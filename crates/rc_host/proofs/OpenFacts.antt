@@ -39,7 +39,7 @@ module _ (run : Run) (log : State) (blobs : List (List ℕ)) (d : Device) (stops
       let same : now ≡ blobs = ok_inj now blobs (sym has ∙ stops.left) in
       let after_told : after.told ≡ Some (synced_and_read true told) = begins.calls ∙ ap (option_map (synced_and_read true)) told_is in
       let kept : IsKept (synced_and_read true told) run.ended = subst (λ (o : Option Told). IfSome o (λ t. IsKept t run.ended)) after_told kept_after in
-      let done = (openings_are_devices run.begun run.ended told (powered d) stops.disk).done stops.few kept in
+      let done = (openings_are_devices run.begun run.ended told (powered d) stops.disk).done kept in
       record {
         same = same;
         has = begins.has ∙ ap (option_map (λ (c : List ℕ). now)) content_is ∙ ap Some same;
@@ -66,5 +66,5 @@ module _ (run : Run) (log : State) (blobs : List (List ℕ)) (d : Device) (stops
       let now_is : now ≡ Some (refused_at fails.call told) = fails.whole_state ∙ ap (option_map (refused_at fails.call)) told_is in
       let at : FailsToOpen len (Some told) (Some (refused_at fails.call told)) power power_now faults faults_now cuts cuts_now =
       subst (λ (o : Option Told). FailsToOpen len (Some told) o power power_now faults faults_now cuts cuts_now) now_is (subst (λ (o : Option Told). FailsToOpen len o now power power_now faults faults_now cuts cuts_now) told_is fails) in
-      (openings_are_devices run.begun run.ended told (powered d) stops.disk).failed len (refused_at fails.call told) power power_now faults faults_now cuts cuts_now stops.few power_is at
+      (openings_are_devices run.begun run.ended told (powered d) stops.disk).failed len (refused_at fails.call told) power power_now faults faults_now cuts cuts_now power_is at
       (subst (λ (o : Option Told). IfSome o (λ t. IsKept t run.ended)) now_is kept)

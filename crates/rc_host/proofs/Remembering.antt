@@ -15,19 +15,11 @@ use Rattle.rc_devices.specs.Disks.{AreKept, ReadsAreKept, IsKept}
 use Rattle.rc_devices.specs.Laws.{IsTold}
 use Rattle.rc_devices.proofs.Appends.{some_inj, stopped_reads}
 use Rattle.rc_devices.proofs.Staying.{calls_stay, fault_stays}
-use Rattle.rc_runs.specs.Devices.{Device}
-use Rattle.rc_host.specs.AnyNode.{AnyNode, AnyAct, NodeDurable}
-use Rattle.rc_host.specs.Standing.{Standing}
-use Rattle.rc_host.specs.declared.host.Host.{Host}
-use Rattle.rc_host.specs.declared.host.Host.TheVariants.{Up, Opened, Down, Lent}
-use Rattle.rc_host.specs.Hosts.{Sight, Run, IsHost, CanRead, HasReadsLeft}
+use Rattle.rc_host.specs.AnyNode.{AnyNode, AnyAct}
 
 -- over disks that tell what they tell, if they do
 abbrev Keeps : Option Told → Told → Type 0
 Keeps told ended = IfSome told (λ t. IsKept t ended)
-
-abbrev HasReads : Option Told → Type 0
-HasReads told = IfSome told (λ t. t.reads.made < 2 ^ 64 - 1)
 
 -- AN APPEND
 appended_stays : (before now : Option Told) (ended : Told) (size : ℕ) (r : List ℕ) → now ≡ option_map (all_done (append_calls size r)) before → Keeps now ended → Keeps before ended
@@ -39,6 +31,7 @@ appended_stays (Some t) now ended size r now_is kept =
     record {
       calls = calls_stay t.numbers.calls 4 t.numbers.failed ended.numbers.failed (subst (λ (m : ℕ). AreKept m t.numbers.failed ended.numbers.failed) calls_are still.calls);
       reads = still.reads;
+      left = still.left;
     }
 
 failed_stays : (before now : Option Told) (ended : Told) (call size : ℕ) (cause : Cause) (r : List ℕ) → 1 ≤ call → now ≡ option_map (stopped_at call (append_calls size r)) before
@@ -51,12 +44,8 @@ failed_stays (Some t) now ended call size cause r low now_is numbers kept =
     record {
       calls = fault_stays t.numbers.calls call t.numbers.failed ended.numbers.failed cause low (subst (λ (x : Numbers). AreKept x.calls x.failed ended.numbers.failed) numbers_are still.calls);
       reads = subst (λ (x : Reads). ReadsAreKept x.made x.failed ended.reads.failed) (stopped_reads call (append_calls size r) t) still.reads;
+      left = subst (λ (x : Reads). x.made < 2 ^ 64 - 1) (stopped_reads call (append_calls size r) t) still.left;
     }
-
-reads_left : (before now : Option Told) (call size : ℕ) (r : List ℕ) → now ≡ option_map (stopped_at call (append_calls size r)) before → HasReads before → HasReads now
-reads_left None now call size r now_is left = subst HasReads (sym now_is) tt
-reads_left (Some t) now call size r now_is left =
-    subst HasReads (sym now_is) (subst (λ (x : Reads). x.made < 2 ^ 64 - 1) (sym (stopped_reads call (append_calls size r) t)) left)
 
 -- AN ACT
 pub done_stays : (old new : State) (ended : Told) (logs : Option Record) → Logs old new logs → IsTold new ended → IsTold old ended
@@ -73,13 +62,12 @@ same_log Failed may_leave old new act other stays = absurd cc
 same_log Full may_leave old new act other stays = stays.same
 same_log BallotsSpent may_leave old new act other stays = stays.same
 
--- the log of an append that failed tells what it told before, where it is told still after a call that wants its count of reads not to be full
-failed_log_stays : (may_leave : List ℕ → Type 0) (old new : State) (ended : Told) (logs : Option Record) → FailsAt may_leave old new logs → HasReads old.told → (HasReads new.told → IsTold new ended) → IsTold old ended
-failed_log_stays may_leave old new ended None fails left told = absurd fails
-failed_log_stays may_leave old new ended (Some r) breaks left told =
+-- what the log of an append that failed tells
+failed_log_stays : (may_leave : List ℕ → Type 0) (old new : State) (ended : Told) (logs : Option Record) → FailsAt may_leave old new logs → IsTold new ended → IsTold old ended
+failed_log_stays may_leave old new ended None fails told = absurd fails
+failed_log_stays may_leave old new ended (Some r) breaks told =
     let fails = breaks.fails.calls in
-    failed_stays old.told new.told ended fails.call old.size fails.cause (record_bytes r) fails.low fails.whole_state fails.numbers
-    (told (reads_left old.told new.told fails.call old.size (record_bytes r) fails.whole_state left))
+    failed_stays old.told new.told ended fails.call old.size fails.cause (record_bytes r) fails.low fails.whole_state fails.numbers told
 
 module _ {J : Type 0} (state : J → State) (may_leave : J → List ℕ → Type 0) (fault : NodeFault) (old new : AnyNode J) (before after : Outbox) (act : AnyAct) (ended : Told)
     (refused : HasRefused state may_leave fault old new before after act) where
@@ -87,30 +75,20 @@ module _ {J : Type 0} (state : J → State) (may_leave : J → List ℕ → Type
   pub refused_stays : is_failed fault ≡ false → IsTold (state new.journal) ended → IsTold (state old.journal) ended
   refused_stays other told = subst (λ (z : State). IsTold z ended) (same_log fault (may_leave new.journal) (state old.journal) (state new.journal) act other refused.journal) told
 
-  pub full_stays : (journal : J) → journal ≡ new.journal → is_failed fault ≡ false → HasReads (state old.journal).told → (HasReads (state journal).told → IsTold (state journal) ended) → IsTold (state old.journal) ended
-  full_stays journal journal_is other left told =
+  pub full_stays : (journal : J) → journal ≡ new.journal → is_failed fault ≡ false → IsTold (state journal) ended → IsTold (state old.journal) ended
+  full_stays journal journal_is other told =
       let same : state journal ≡ state old.journal = ap state journal_is ∙ same_log fault (may_leave new.journal) (state old.journal) (state new.journal) act other refused.journal in
-      subst (λ (z : State). IsTold z ended) same (told (subst (λ (z : State). HasReads z.told) (sym same) left))
+      subst (λ (z : State). IsTold z ended) same told
 
-  pub fault_leaves : (journal : J) → journal ≡ new.journal → fault ≡ Failed → HasReads (state old.journal).told → (HasReads (state journal).told → IsTold (state journal) ended) → IsTold (state old.journal) ended
-  fault_leaves journal journal_is fault_is left told =
+  pub fault_leaves : (journal : J) → journal ≡ new.journal → fault ≡ Failed → IsTold (state journal) ended → IsTold (state old.journal) ended
+  fault_leaves journal journal_is fault_is told =
       let fails : FailsAt (may_leave new.journal) (state old.journal) (state new.journal) act.logs = subst (λ (f : NodeFault). Stays f (may_leave new.journal) (state old.journal) (state new.journal) act) fault_is refused.journal in
-      failed_log_stays (may_leave new.journal) (state old.journal) (state new.journal) ended act.logs fails left
-      (subst (λ (j : J). HasReads (state j).told → IsTold (state j) ended) journal_is told)
+      failed_log_stays (may_leave new.journal) (state old.journal) (state new.journal) ended act.logs fails (subst (λ (j : J). IsTold (state j) ended) journal_is told)
 
--- HOSTS
--- a host of a node of the run may have its log opened where the run's device has reads left
-pub can_read : {N J D : Type 0} (s : Sight N J D) (gives : List (List ℕ) → NodeDurable → Type 0) (run : Run) (host : Host N J D) (x : Standing) (d : Device) → IsHost s gives run host x d → HasReadsLeft run d → CanRead s host
-can_read s gives run (Up node) x d is left =
-    let device = is.log.device in
-    subst HasReads (sym device.tells) (subst (λ (n : ℕ). n < 2 ^ 64 - 1) (sym device.disk.reads.counted) left)
-can_read s gives run (Opened journal blobs) x d is left = tt
-can_read s gives run (Down disk) x d is left = tt
-can_read s gives run Lent x d is left = tt
-
--- what a disk tells is told then
-pub told_then : (t : Told) → IsKept t t
-told_then t = record {
+-- what a disk tells is told then, where it has reads left
+pub told_then : (t : Told) → t.reads.made < 2 ^ 64 - 1 → IsKept t t
+told_then t left = record {
   calls = record { since = []; all = sym (append-nil t.numbers.failed); above = tt };
   reads = record { since = []; all = sym (append-nil t.reads.failed); above = tt };
+  left = left;
 }

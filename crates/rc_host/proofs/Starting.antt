@@ -97,7 +97,7 @@ module _ {D : Type 0} (told_by : D → Option Told) (content_of : D → Option (
   opens_it log blobs read begins kept =
       let has : records content ≡ Ok blobs = subst (λ (o : Option (List ℕ)). IfSome o (λ c. records c ≡ Ok blobs)) is.content_is read in
       let tells : log.told ≡ Some (synced_and_read true is.told) = begins.calls ∙ ap (option_map (synced_and_read true)) is.tells in
-      let done = (openings_are_devices run.begun run.ended is.told shut is_shut).done few (subst (λ (o : Option Told). IfSome o (λ t. IsKept t run.ended)) tells kept) in (
+      let done = (openings_are_devices run.begun run.ended is.told shut is_shut).done (subst (λ (o : Option Told). IfSome o (λ t. IsKept t run.ended)) tells kept) in (
         record {
           has = begins.has ∙ ap (option_map (λ (c : List ℕ). blobs)) is.content_is;
           count = begins.count_is;
@@ -128,7 +128,7 @@ module _ {D : Type 0} (told_by : D → Option Told) (content_of : D → Option (
       let at : FailsToOpen len (Some is.told) (Some t) power power_now faults faults_now cuts cuts_now =
       subst (λ (o : Option Told). FailsToOpen len (Some is.told) o power power_now faults faults_now cuts cuts_now) now_is (subst (λ (o : Option Told). FailsToOpen len o now power power_now faults faults_now cuts cuts_now) is.tells fails) in
       ap (λ (o : Option Device). opens_as o (records content))
-      ((openings_are_devices run.begun run.ended is.told shut is_shut).failed len t power power_now faults faults_now cuts cuts_now few power_is at (subst (λ (o : Option Told). IfSome o (λ u. IsKept u run.ended)) now_is kept))
+      ((openings_are_devices run.begun run.ended is.told shut is_shut).failed len t power power_now faults faults_now cuts cuts_now power_is at (subst (λ (o : Option Told). IfSome o (λ u. IsKept u run.ended)) now_is kept))
 
   pub damaged : (fault : OpenFault) (place shown_place : ℕ) → place ≡ shown_place → (len : ℕ) (now : Option Told) (power power_now : Power) (faults faults_now cuts cuts_now : ℕ) → fault ≡ Damaged place → IsDamage (content_of disk) fault → (more : ℕ) → len ≡ suc more
       → IsNoOpen len fault (told_by disk) now power power_now faults faults_now cuts cuts_now → IfSome now (λ t. IsKept t run.ended) → opens_as (opened shut) (records content) ≡ Err (LogRefused run.node (LogDamaged shown_place))
@@ -136,7 +136,7 @@ module _ {D : Type 0} (told_by : D → Option Told) (content_of : D → Option (
       let stops = subst (λ (n : ℕ). IsNoOpen n (Damaged place) (told_by disk) now power power_now faults faults_now cuts cuts_now) len_is (subst (λ (f : OpenFault). IsNoOpen len f (told_by disk) now power power_now faults faults_now cuts cuts_now) fault_is refused) in
       let now_is : now ≡ Some (synced_and_read true is.told) = stops.whole_state ∙ ap (option_map (synced_and_read true)) is.tells in
       let has : records content ≡ Err place = subst (λ (o : Option (List ℕ)). IfSome o (λ c. records c ≡ Err place)) is.content_is (subst (IsDamage (content_of disk)) fault_is damage) in
-      let done = (openings_are_devices run.begun run.ended is.told shut is_shut).done few (subst (λ (o : Option Told). IfSome o (λ t. IsKept t run.ended)) now_is kept) in
+      let done = (openings_are_devices run.begun run.ended is.told shut is_shut).done (subst (λ (o : Option Told). IfSome o (λ t. IsKept t run.ended)) now_is kept) in
       ap (λ (o : Option Device). opens_as o (records content)) done.0 ∙ ap (opens_as (Some awake)) has ∙ ap (λ (p : ℕ). Err (LogRefused run.node (LogDamaged p))) same
 
   -- how long its disk is

@@ -179,16 +179,12 @@ module _ {N J D : Type 0} (s : Sight N J D) (gives : List (List ℕ) → NodeDur
 
   -- the disk failed at the record
   failed_at : (log : State) (o : Option Record) → act.logs ≡ o → IfSome o (IsLogged gives x act) → (may_leave : List ℕ → Type 0) → AppendFailsAt may_leave old log o → HasReadsLeft run d
-      → (IfSome log.told (λ t. t.reads.made < 2 ^ 64 - 1) → IsTold log run.ended) → Stopped log
+      → IsTold log run.ended → Stopped log
   failed_at log None none logged may_leave fails left told = absurd fails
   failed_at log (Some r) some logged may_leave breaks left told =
       let fails = breaks.fails in
       let call = fails.calls.call in
-      let calls = append_calls old.size (record_bytes r) in
-      let tells : log.told ≡ Some (stopped_at call calls is.log.device.told) = fails.calls.whole_state ∙ ap (option_map (stopped_at call calls)) is.log.device.tells in
-      let few : is.log.device.told.reads.made < 2 ^ 64 - 1 = subst (λ (n : ℕ). n < 2 ^ 64 - 1) (sym is.log.device.disk.reads.counted) left in
-      let is_told = told (subst (λ (o : Option Told). IfSome o (λ t. t.reads.made < 2 ^ 64 - 1)) (sym tells) (subst (λ (rd : Reads). rd.made < 2 ^ 64 - 1) (sym (stopped_reads call calls is.log.device.told)) few)) in
-      let failed = (appends_are_devices run.begun run.ended old d (record_bytes r) is.log.device).failed log fails breaks.fits is_told in
+      let failed = (appends_are_devices run.begun run.ended old d (record_bytes r) is.log.device).failed log fails breaks.fits told in
       let came = comes_some d act r (FailsAt call fails.calls.cause) failed.after some failed.is in
       record {
         entry = r;
@@ -197,7 +193,7 @@ module _ {N J D : Type 0} (s : Sight N J D) (gives : List (List ℕ) → NodeDur
         count = fails.same_count ∙ is.log.count;
         kept = keeps call fails.calls.cause;
         device = failed.after;
-        stops = stops_failed gives run x d act old log is.blobs is.log left r fails breaks.fits is_told failed;
+        stops = stops_failed gives run x d act old log is.blobs is.log left r fails breaks.fits told failed;
         comes = came.0;
         leaves = came.1;
       }
@@ -232,7 +228,7 @@ module _ {N J D : Type 0} (s : Sight N J D) (gives : List (List ℕ) → NodeDur
 
   pub failed_stop : (new : N) (journal : J) (fault : NodeFault) (may_leave : J → List ℕ → Type 0) (before after : Outbox) → journal ≡ (s.seen new).journal
       → fault ≡ Failed → HasRefused s.state may_leave fault (s.seen node) (s.seen new) before after (act_of (s.seen node) cause) → AreLogged gives x act → HasReadsLeft run d
-      → (IfSome (s.state journal).told (λ t. t.reads.made < 2 ^ 64 - 1) → IsTold (s.state journal) run.ended) → Stopped (s.state journal)
+      → IsTold (s.state journal) run.ended → Stopped (s.state journal)
   failed_stop new journal fault may_leave before after journal_is fault_is refused logged left told =
       let done = subst (λ (a : AnyAct). HasRefused s.state may_leave Failed (s.seen node) (s.seen new) before after a) act_is (subst (λ (f : NodeFault). HasRefused s.state may_leave f (s.seen node) (s.seen new) before after (act_of (s.seen node) cause)) fault_is refused) in
       failed_at (s.state journal) act.logs refl logged (may_leave (s.seen new).journal) (subst (λ (z : State). AppendFailsAt (may_leave (s.seen new).journal) old z act.logs) (ap s.state (sym journal_is)) done.journal) left told

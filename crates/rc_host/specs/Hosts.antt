@@ -120,11 +120,6 @@ IsToldBy s (Opened journal blobs) ended = IfSome (s.state journal).told (λ t. I
 IsToldBy s (Down disk) ended = IfSome (s.told disk) (λ t. IsKept t ended)
 IsToldBy s Lent ended = ⊥
 
--- a node that is up may have its log opened: its disk's count of reads is not full
-abbrev pub CanRead : {N J D : Type 0} → Sight N J D → Host N J D → Type 0
-CanRead s (Up node) = IfSome (s.state (s.seen node).journal).told (λ t. t.reads.made < 2 ^ 64 - 1)
-CanRead s _ = Unit {0}
-
 -- the disk's count of reads is not full
 abbrev pub HasReadsLeft : Run → Device → Type 0
 HasReadsLeft run d = reads_at run.begun + d.reads < 2 ^ 64 - 1

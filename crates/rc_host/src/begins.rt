@@ -231,6 +231,8 @@ fn create_and_begin<D: Disk, N: Node<Log<D>>>(
     ensures on { IfErr result (λ e. D.power e.1 ≡ On) }
     ensures up { IfOk result (λ b. IfUp b.0 (λ node. (N.seen node).stopped ≡ false)) }
     ensures there { IfOk result (λ b. IsThere b.0) }
+    ensures grew { IfOk result (λ b. (ended : Told) → IsToldBy (sight N.seen ⟦<Log<D> as Journal>⟧.state D.told D.content D.power) b.0 ended → IfSome (D.told disk) (λ t. IsKept t ended)) }
+    ensures grew_err { IfErr result (λ e. (ended : Told) → IfSome (D.told e.1) (λ t. IsKept t ended) → IfSome (D.told disk) (λ t. IsKept t ended)) }
 {
     match Log::create(alloc, disk, MOST_LOG_BYTES) {
         Ok(log) => begin_on(alloc, node, cluster, log, Blobs::new(alloc)),
@@ -258,6 +260,8 @@ fn open_and_begin<D: Disk, N: Node<Log<D>>>(
     ensures on { IfErr result (λ e. D.power e.1 ≡ On) }
     ensures up { IfOk result (λ b. IfUp b.0 (λ node. (N.seen node).stopped ≡ false)) }
     ensures there { IfOk result (λ b. IsThere b.0) }
+    ensures grew { IfOk result (λ b. (ended : Told) → IsToldBy (sight N.seen ⟦<Log<D> as Journal>⟧.state D.told D.content D.power) b.0 ended → IfSome (D.told disk) (λ t. IsKept t ended)) }
+    ensures grew_err { IfErr result (λ e. (ended : Told) → IfSome (D.told e.1) (λ t. IsKept t ended) → IfSome (D.told disk) (λ t. IsKept t ended)) }
 {
     match Log::open(alloc, disk, MOST_LOG_BYTES) {
         Ok((log, records)) => begin_on(alloc, node, cluster, log, records),
@@ -286,6 +290,8 @@ pub fn begin<D: Disk, N: Node<Log<D>>>(
     ensures on { IfErr result (λ e. D.power e.1 ≡ On) }
     ensures up { IfOk result (λ b. IfUp b.0 (λ node. (N.seen node).stopped ≡ false)) }
     ensures there { IfOk result (λ b. IsThere b.0) }
+    ensures grew { IfOk result (λ b. (ended : Told) → IsToldBy (sight N.seen ⟦<Log<D> as Journal>⟧.state D.told D.content D.power) b.0 ended → IfSome (D.told disk) (λ t. IsKept t ended)) }
+    ensures grew_err { IfErr result (λ e. (ended : Told) → IfSome (D.told e.1) (λ t. IsKept t ended) → IfSome (D.told disk) (λ t. IsKept t ended)) }
 {
     if disk.len() == 0 {
         create_and_begin(alloc, &node, cluster, disk)

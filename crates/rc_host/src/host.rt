@@ -1,5 +1,5 @@
 // A node and its disk.
-ghost use Rattle.std.specs.Prelude.{◌≡◌, ◌-◌, ◌<◌, ◌^◌, ℕ, List, false, true, IfSome, Ok, OnErr, IfOk, IfErr};
+ghost use Rattle.std.specs.Prelude.{◌≡◌, ℕ, List, false, true, IfSome, Ok, OnErr, IfOk, IfErr};
 ghost use Rattle.rc_disk.specs.Calls.{Told, read_bytes};
 ghost use Rattle.rc_log.specs.Records.{records};
 ghost use Rattle.rc_runs.specs.Devices.{Device};
@@ -10,7 +10,7 @@ ghost use Rattle.rc_host.specs.Causes.{cause_of};
 ghost use Rattle.rc_host.specs.Standing.{Standing};
 ghost use Rattle.rc_host.specs.declared.host.Host.TheVariants.{Up};
 ghost use Rattle.rc_host.specs.declared.host.Course.TheVariants.{Goes};
-ghost use Rattle.rc_host.specs.Hosts.{IsThere, CountsOn, Run, sight, is_up, IfUp, IsHost, IsUp, CanRead, IsToldBy, HasReadsLeft, Went, Stayed, StopsAt, OpensAgain, StaysShut};
+ghost use Rattle.rc_host.specs.Hosts.{IsThere, CountsOn, Run, sight, is_up, IfUp, IsHost, IsUp, IsToldBy, HasReadsLeft, Went, Stayed, StopsAt, OpensAgain, StaysShut};
 
 use crate::{Cause, Node};
 use rc_disk::Disk;
@@ -77,7 +77,7 @@ fn open_at_once<D: Disk, N: Node<Log<D>>>(
     ensures down { is_up result.0 ≡ false }
     ensures there { IsThere result.0 }
     ensures whole { (⟦<Log<D> as Journal>⟧.state log).failed ≡ false → IfSome (⟦<Log<D> as Journal>⟧.state log).told (λ t. IfSome (⟦<Log<D> as Journal>⟧.state log).records (λ rs. records (read_bytes t) ≡ Ok rs)) }
-    ensures grew { (ended : Told) → IfSome (⟦<Log<D> as Journal>⟧.state log).told (λ t. t.reads.made < 2 ^ 64 - 1) → IsToldBy (sight N.seen ⟦<Log<D> as Journal>⟧.state D.told D.content D.power) result.0 ended → IfSome (⟦<Log<D> as Journal>⟧.state log).told (λ t. IsKept t ended) }
+    ensures grew { (ended : Told) → IsToldBy (sight N.seen ⟦<Log<D> as Journal>⟧.state D.told D.content D.power) result.0 ended → IfSome (⟦<Log<D> as Journal>⟧.state log).told (λ t. IsKept t ended) }
 {
     let count = log.count();
     let mut disk = log.into_disk();
@@ -113,7 +113,7 @@ fn turn<D: Disk, N: Node<Log<D>>>(
     ensures there { IsThere result.0 }
     ensures counts { (run : Run) (x : Standing) (d : Device) → IsUp (sight N.seen ⟦<Log<D> as Journal>⟧.state D.told D.content D.power) (N.back run.node run.cluster) run node x d
         → IfOk result.1 (λ course. CountsOn (sight N.seen ⟦<Log<D> as Journal>⟧.state D.told D.content D.power) (Up node) result.0 (node_act run.cluster run.node x.durable x.volatile (cause_of cause.now))) }
-    ensures grew { (ended : Told) → CanRead (sight N.seen ⟦<Log<D> as Journal>⟧.state D.told D.content D.power) (Up node) → IsToldBy (sight N.seen ⟦<Log<D> as Journal>⟧.state D.told D.content D.power) result.0 ended → IsToldBy (sight N.seen ⟦<Log<D> as Journal>⟧.state D.told D.content D.power) (Up node) ended }
+    ensures grew { (ended : Told) → IsToldBy (sight N.seen ⟦<Log<D> as Journal>⟧.state D.told D.content D.power) result.0 ended → IsToldBy (sight N.seen ⟦<Log<D> as Journal>⟧.state D.told D.content D.power) (Up node) ended }
 {
     N::logged_acts();
     let mut node = node;
@@ -144,7 +144,7 @@ pub fn act<D: Disk, N: Node<Log<D>>>(
     ensures err { (run : Run) (x : Standing) (d : Device) → is_up host.old ≡ true → IsHost (sight N.seen ⟦<Log<D> as Journal>⟧.state D.told D.content D.power) (N.back run.node run.cluster) run host.old x d → HasReadsLeft run d
         → let act = node_act run.cluster run.node x.durable x.volatile (cause_of cause.now) in IfSome act.logs HasRecord → IsToldBy (sight N.seen ⟦<Log<D> as Journal>⟧.state D.told D.content D.power) host.new run.ended
         → IfErr result (λ fault. Stayed (sight N.seen ⟦<Log<D> as Journal>⟧.state D.told D.content D.power) (N.back run.node run.cluster) run fault host.new out.old out.new x d act) }
-    ensures grew { (ended : Told) → CanRead (sight N.seen ⟦<Log<D> as Journal>⟧.state D.told D.content D.power) host.old → IsToldBy (sight N.seen ⟦<Log<D> as Journal>⟧.state D.told D.content D.power) host.new ended → IsToldBy (sight N.seen ⟦<Log<D> as Journal>⟧.state D.told D.content D.power) host.old ended }
+    ensures grew { (ended : Told) → IsToldBy (sight N.seen ⟦<Log<D> as Journal>⟧.state D.told D.content D.power) host.new ended → IsToldBy (sight N.seen ⟦<Log<D> as Journal>⟧.state D.told D.content D.power) host.old ended }
     ensures counts { (run : Run) (x : Standing) (d : Device) → is_up host.old ≡ true → IsHost (sight N.seen ⟦<Log<D> as Journal>⟧.state D.told D.content D.power) (N.back run.node run.cluster) run host.old x d
         → IfOk result (λ course. CountsOn (sight N.seen ⟦<Log<D> as Journal>⟧.state D.told D.content D.power) host.old host.new (node_act run.cluster run.node x.durable x.volatile (cause_of cause.now))) }
     ensures idle { is_up host.old ≡ false → (host.new ≡ host.old) × (out.new ≡ out.old) × (result ≡ Ok Goes) }

@@ -1,10 +1,9 @@
 // A node that is down starts again, and asks the others for what it missed.
-ghost use Rattle.std.specs.Prelude.{◌≡◌, ◌<◌, ◌-◌, ◌^◌, ℕ, false, true, IfOk, IfErr, IfSome, OnOk, OnErr};
+ghost use Rattle.std.specs.Prelude.{◌≡◌, ℕ, false, true, IfOk, IfErr, OnOk, OnErr};
 ghost use Rattle.rc_disk.specs.Calls.{Told};
 ghost use Rattle.rc_runs.specs.Devices.{Device};
 ghost use Rattle.rc_host.specs.Standing.{Standing};
 ghost use Rattle.rc_host.specs.Hosts.{IsThere, Run, sight, is_up, IfUp, IsHost, IsToldBy, HasReadsLeft};
-ghost use Rattle.rc_host.specs.Disks.{told_by};
 ghost use Rattle.rc_host.specs.Restarts.{HasAsked, HasRejoined, HasNotRejoined};
 
 use crate::{Cause, Host, Node, RestartFault, crash, restart};
@@ -60,8 +59,7 @@ pub fn rejoin<D: Disk, N: Node<Log<D>>>(
     ensures out { OnErr result (out.new ≡ out.old) }
     ensures up { IfUp host.new (λ node. (N.seen node).stopped ≡ false) }
     ensures there { IsThere host.old → IsThere host.new }
-    ensures grew { (ended : Told) → IfSome (told_by (sight N.seen ⟦<Log<D> as Journal>⟧.state D.told D.content D.power) host.old) (λ t. t.reads.made < 2 ^ 64 - 1)
-        → IsToldBy (sight N.seen ⟦<Log<D> as Journal>⟧.state D.told D.content D.power) host.new ended → IsToldBy (sight N.seen ⟦<Log<D> as Journal>⟧.state D.told D.content D.power) host.old ended }
+    ensures grew { (ended : Told) → IsToldBy (sight N.seen ⟦<Log<D> as Journal>⟧.state D.told D.content D.power) host.new ended → IsToldBy (sight N.seen ⟦<Log<D> as Journal>⟧.state D.told D.content D.power) host.old ended }
 {
     if let Err(fault) = restart(alloc, node, cluster, host) {
         return Err(fault);

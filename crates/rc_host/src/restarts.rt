@@ -1,12 +1,11 @@
 // A node that is down starts again.
-ghost use Rattle.std.specs.Prelude.{◌≡◌, ◌<◌, ◌-◌, ◌^◌, ℕ, List, false, true, Ok, IfOk, IfErr, IfSome};
+ghost use Rattle.std.specs.Prelude.{◌≡◌, ℕ, List, false, true, Ok, IfOk, IfErr, IfSome};
 ghost use Rattle.rc_disk.specs.Calls.{Told};
 ghost use Rattle.rc_runs.specs.Devices.{Device};
 ghost use Rattle.rc_devices.specs.Disks.{IsKept};
 ghost use Rattle.rc_host.specs.Standing.{Standing, started_again};
 ghost use Rattle.rc_host.specs.declared.restarts.RestartFault.TheVariants.{NoMemory as OutOfMemory};
 ghost use Rattle.rc_host.specs.Hosts.{IsThere, Run, sight, is_up, IfUp, IsHost, IsOpened, IsDown, IsToldBy, HasReadsLeft};
-ghost use Rattle.rc_host.specs.Disks.{told_by};
 ghost use Rattle.rc_host.specs.Restarts.{HasStarted, HasNotStarted, restart_fault};
 
 use crate::{Host, MOST_LOG_BYTES, Node};
@@ -109,7 +108,7 @@ fn open_and_start<D: Disk, N: Node<Log<D>>>(
         → IfErr result.1 (λ fault. HasNotStarted (sight N.seen ⟦<Log<D> as Journal>⟧.state D.told D.content D.power) (N.back run.node run.cluster) run fault result.0 x d) }
     ensures up { IfUp result.0 (λ node. (N.seen node).stopped ≡ false) }
     ensures there { IsThere result.0 }
-    ensures grew { (ended : Told) → IfSome (D.told disk) (λ t. t.reads.made < 2 ^ 64 - 1) → IsToldBy (sight N.seen ⟦<Log<D> as Journal>⟧.state D.told D.content D.power) result.0 ended → IfSome (D.told disk) (λ t. IsKept t ended) }
+    ensures grew { (ended : Told) → IsToldBy (sight N.seen ⟦<Log<D> as Journal>⟧.state D.told D.content D.power) result.0 ended → IfSome (D.told disk) (λ t. IsKept t ended) }
 {
     let mut disk = disk;
     disk.power_on();
@@ -139,7 +138,7 @@ fn start_opened<D: Disk, N: Node<Log<D>>>(
         → IfErr result.1 (λ fault. HasNotStarted (sight N.seen ⟦<Log<D> as Journal>⟧.state D.told D.content D.power) (N.back run.node run.cluster) run fault result.0 x d) }
     ensures up { IfUp result.0 (λ node. (N.seen node).stopped ≡ false) }
     ensures there { IsThere result.0 }
-    ensures grew { (ended : Told) → IfSome (⟦<Log<D> as Journal>⟧.state log).told (λ t. t.reads.made < 2 ^ 64 - 1) → IsToldBy (sight N.seen ⟦<Log<D> as Journal>⟧.state D.told D.content D.power) result.0 ended → IfSome (⟦<Log<D> as Journal>⟧.state log).told (λ t. IsKept t ended) }
+    ensures grew { (ended : Told) → IsToldBy (sight N.seen ⟦<Log<D> as Journal>⟧.state D.told D.content D.power) result.0 ended → IfSome (⟦<Log<D> as Journal>⟧.state log).told (λ t. IsKept t ended) }
 {
     if log.failed() {
         return open_and_start(alloc, node, cluster, log.into_disk());
@@ -166,8 +165,7 @@ pub fn restart<D: Disk, N: Node<Log<D>>>(
     ensures idle { is_up host.old ≡ true → (host.new ≡ host.old) × (result ≡ Ok tt) }
     ensures up { IfUp host.old (λ node. (N.seen node).stopped ≡ false) → IfUp host.new (λ node. (N.seen node).stopped ≡ false) }
     ensures there { IsThere host.old → IsThere host.new }
-    ensures grew { (ended : Told) → IfSome (told_by (sight N.seen ⟦<Log<D> as Journal>⟧.state D.told D.content D.power) host.old) (λ t. t.reads.made < 2 ^ 64 - 1)
-        → IsToldBy (sight N.seen ⟦<Log<D> as Journal>⟧.state D.told D.content D.power) host.new ended → IsToldBy (sight N.seen ⟦<Log<D> as Journal>⟧.state D.told D.content D.power) host.old ended }
+    ensures grew { (ended : Told) → IsToldBy (sight N.seen ⟦<Log<D> as Journal>⟧.state D.told D.content D.power) host.new ended → IsToldBy (sight N.seen ⟦<Log<D> as Journal>⟧.state D.told D.content D.power) host.old ended }
 {
     match mem::replace(host, Host::Lent) {
         Host::Opened(log, records) => {

@@ -3,8 +3,9 @@ use Rattle.rc_log.specs.declared.log.Log.{Log}
 use Rattle.rc_log.specs.Journals.{log_state}
 use Rattle.rc_devices.specs.Disks.{IsKept, calls_made}
 use Rattle.rc_runs.specs.Stored.{takes_log, opens_log}
-use Rattle.rc_host.specs.Hosts.{sight}
+use Rattle.rc_host.specs.Hosts.{sight, IsToldBy}
 use Rattle.rc_host.proofs.Beginning.{closed_kept}
+use Rattle.rc_host.proofs.BeginGrown.{created_stays, not_created_stays, grew_as, grew_err_as}
 use Rattle.rc_host.proofs.Starting.{creates_with, creation_failed, begun_as, not_begun_as}
 use Rattle.rc_host.proofs.begins.create_and_begin.Goals as goal
 
@@ -26,3 +27,26 @@ pub returns-in-Err-Failed-default-clause-err : goal.returns-in-Err-Failed-defaul
 returns-in-Err-Failed-default-clause-err g c = λ run d is_node is_cluster is told.
     creation_failed g.D.Disk.told g.D.Disk.content g.D.Disk.power run c.args.disk [] d is c.in-Err-Failed-default.field-0-0 (g.D.Disk.told c.in-Err-Failed-default.disk) _ _ _ _ _ _ c.in-Err-Failed-default.field-0-0-is is.on c.in-Err-Failed-default.ensures.err
     (closed_kept (g.D.Disk.told c.in-Err-Failed-default.disk) (g.D.Disk.told c.powered-in-Err-Failed-default.result) run.ended c.powered-in-Err-Failed-default.ensures.told told)
+
+pub returns-in-Ok-clause-grew : goal.returns-in-Ok-clause-grew
+returns-in-Ok-clause-grew g c =
+    let state = (λ (l : Log g.row.D.Denot g.D.Disk). log_state (g.D.Disk.content l.disk) (g.D.Disk.told l.disk) (g.D.Disk.power l.disk) (g.D.Disk.faults l.disk) (g.D.Disk.cuts l.disk) l.end l.count l.limit l.failed l.frame.items) in
+    grew_as c.begin_on.result (λ b. IsToldBy (sight g.N.Node.seen state g.D.Disk.told g.D.Disk.content g.D.Disk.power) b.0) (λ ended. IfSome (g.D.Disk.told c.in-Ok.log.disk) (λ t. IsKept t ended)) (λ ended. IfSome (g.D.Disk.told c.args.disk) (λ t. IsKept t ended))
+    (λ ended kept. created_stays (g.D.Disk.told c.args.disk) (g.D.Disk.told c.in-Ok.log.disk) ended c.in-Ok.ensures.begins.calls kept) c.begin_on.ensures.grew
+
+pub returns-in-Ok-clause-grew_err : goal.returns-in-Ok-clause-grew_err
+returns-in-Ok-clause-grew_err g c =
+    grew_err_as c.begin_on.result (λ e ended. IfSome (g.D.Disk.told e.1) (λ t. IsKept t ended)) (λ ended. IfSome (g.D.Disk.told c.in-Ok.log.disk) (λ t. IsKept t ended)) (λ ended. IfSome (g.D.Disk.told c.args.disk) (λ t. IsKept t ended))
+    (λ ended kept. created_stays (g.D.Disk.told c.args.disk) (g.D.Disk.told c.in-Ok.log.disk) ended c.in-Ok.ensures.begins.calls kept) c.begin_on.ensures.grew_err
+
+pub returns-in-Err-NoMemory-default-clause-grew_err : goal.returns-in-Err-NoMemory-default-clause-grew_err
+returns-in-Err-NoMemory-default-clause-grew_err g c = λ ended told.
+    not_created_stays c.in-Err-NoMemory-default.field-0-0 (g.D.Disk.told c.args.disk) (g.D.Disk.told c.in-Err-NoMemory-default.disk) ended _ _ _ _ _ _ c.in-Err-NoMemory-default.ensures.err (closed_kept (g.D.Disk.told c.in-Err-NoMemory-default.disk) (g.D.Disk.told c.powered.result) ended c.powered.ensures.told told)
+
+pub returns-in-Err-Failed-default-clause-grew_err : goal.returns-in-Err-Failed-default-clause-grew_err
+returns-in-Err-Failed-default-clause-grew_err g c = λ ended told.
+    not_created_stays c.in-Err-Failed-default.field-0-0 (g.D.Disk.told c.args.disk) (g.D.Disk.told c.in-Err-Failed-default.disk) ended _ _ _ _ _ _ c.in-Err-Failed-default.ensures.err (closed_kept (g.D.Disk.told c.in-Err-Failed-default.disk) (g.D.Disk.told c.powered-in-Err-Failed-default.result) ended c.powered-in-Err-Failed-default.ensures.told told)
+
+pub returns-in-Err-Damaged-default-clause-grew_err : goal.returns-in-Err-Damaged-default-clause-grew_err
+returns-in-Err-Damaged-default-clause-grew_err g c = λ ended told.
+    not_created_stays c.in-Err-Damaged-default.field-0-0 (g.D.Disk.told c.args.disk) (g.D.Disk.told c.in-Err-Damaged-default.disk) ended _ _ _ _ _ _ c.in-Err-Damaged-default.ensures.err (closed_kept (g.D.Disk.told c.in-Err-Damaged-default.disk) (g.D.Disk.told c.powered-in-Err-Damaged-default.result) ended c.powered-in-Err-Damaged-default.ensures.told told)

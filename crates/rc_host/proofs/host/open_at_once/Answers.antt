@@ -10,12 +10,12 @@ returns-in-Ok-clause-ok g c = λ run blobs d stops kept.
     (g.met.D.Disk.told_content c.power_on.new.self) c.in-Ok.ensures.records c.in-Ok.ensures.begins kept
 
 pub returns-in-Ok-clause-grew : goal.returns-in-Ok-clause-grew
-returns-in-Ok-clause-grew g c = λ ended few kept.
-    told_stays (g.D.Disk.told c.args.log.disk) (g.D.Disk.told c.power_on.new.self) (g.D.Disk.told c.in-Ok.opened.disk) ended (c.power_on.ensures.told ∙ ap (λ disk. option_map powered_disk (g.D.Disk.told disk)) c.into_disk-disk.ensures) c.in-Ok.ensures.begins.calls few kept
+returns-in-Ok-clause-grew g c = λ ended kept.
+    told_stays (g.D.Disk.told c.args.log.disk) (g.D.Disk.told c.power_on.new.self) (g.D.Disk.told c.in-Ok.opened.disk) ended (c.power_on.ensures.told ∙ ap (λ disk. option_map powered_disk (g.D.Disk.told disk)) c.into_disk-disk.ensures) c.in-Ok.ensures.begins.calls kept
 
 pub returns-in-Err-NoMemory-default-clause-grew : goal.returns-in-Err-NoMemory-default-clause-grew
-returns-in-Err-NoMemory-default-clause-grew g c = λ ended few kept.
-    refusal_stays _ _ (g.D.Disk.told c.args.log.disk) (g.D.Disk.told c.power_on.new.self) (g.D.Disk.told c.in-Err-NoMemory-default.disk) ended _ _ _ _ _ _ (c.power_on.ensures.told ∙ ap (λ disk. option_map powered_disk (g.D.Disk.told disk)) c.into_disk-disk.ensures) c.in-Err-NoMemory-default.ensures.refused few kept
+returns-in-Err-NoMemory-default-clause-grew g c = λ ended kept.
+    refusal_stays _ _ (g.D.Disk.told c.args.log.disk) (g.D.Disk.told c.power_on.new.self) (g.D.Disk.told c.in-Err-NoMemory-default.disk) ended _ _ _ _ _ _ (c.power_on.ensures.told ∙ ap (λ disk. option_map powered_disk (g.D.Disk.told disk)) c.into_disk-disk.ensures) c.in-Err-NoMemory-default.ensures.refused kept
 
 pub returns-in-Err-Failed-default-clause-err : goal.returns-in-Err-Failed-default-clause-err
 returns-in-Err-Failed-default-clause-err g c = λ run blobs d stops kept.
@@ -23,9 +23,9 @@ returns-in-Err-Failed-default-clause-err g c = λ run blobs d stops kept.
     c.in-Err-Failed-default.ensures.refused kept
 
 pub returns-in-Err-Failed-default-clause-grew : goal.returns-in-Err-Failed-default-clause-grew
-returns-in-Err-Failed-default-clause-grew g c = λ ended few kept.
-    refusal_stays _ _ (g.D.Disk.told c.args.log.disk) (g.D.Disk.told c.power_on.new.self) (g.D.Disk.told c.in-Err-Failed-default.disk) ended _ _ _ _ _ _ (c.power_on.ensures.told ∙ ap (λ disk. option_map powered_disk (g.D.Disk.told disk)) c.into_disk-disk.ensures) c.in-Err-Failed-default.ensures.refused few kept
+returns-in-Err-Failed-default-clause-grew g c = λ ended kept.
+    refusal_stays _ _ (g.D.Disk.told c.args.log.disk) (g.D.Disk.told c.power_on.new.self) (g.D.Disk.told c.in-Err-Failed-default.disk) ended _ _ _ _ _ _ (c.power_on.ensures.told ∙ ap (λ disk. option_map powered_disk (g.D.Disk.told disk)) c.into_disk-disk.ensures) c.in-Err-Failed-default.ensures.refused kept
 
 pub returns-in-Err-Damaged-default-clause-grew : goal.returns-in-Err-Damaged-default-clause-grew
-returns-in-Err-Damaged-default-clause-grew g c = λ ended few kept.
-    refusal_stays _ _ (g.D.Disk.told c.args.log.disk) (g.D.Disk.told c.power_on.new.self) (g.D.Disk.told c.in-Err-Damaged-default.disk) ended _ _ _ _ _ _ (c.power_on.ensures.told ∙ ap (λ disk. option_map powered_disk (g.D.Disk.told disk)) c.into_disk-disk.ensures) c.in-Err-Damaged-default.ensures.refused few kept
+returns-in-Err-Damaged-default-clause-grew g c = λ ended kept.
+    refusal_stays _ _ (g.D.Disk.told c.args.log.disk) (g.D.Disk.told c.power_on.new.self) (g.D.Disk.told c.in-Err-Damaged-default.disk) ended _ _ _ _ _ _ (c.power_on.ensures.told ∙ ap (λ disk. option_map powered_disk (g.D.Disk.told disk)) c.into_disk-disk.ensures) c.in-Err-Damaged-default.ensures.refused kept

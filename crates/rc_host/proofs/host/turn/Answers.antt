@@ -14,7 +14,7 @@ returns-in-Err-Failed-clause-ok g c = λ run x d is left has told.
     let logged = c.logged_acts.ensures run.node run.cluster x (cause_of c.args.cause.now) has in
     let gives = g.N.Node.back run.node run.cluster in
     let cause = cause_of c.args.cause.now in
-    let z = failed_stop _ gives run c.args.node x d cause is c.act.new.self c.into_journal.result c.in-Err-Failed.field-0 _ c.args.out.now c.act.new.out c.into_journal.ensures c.in-Err-Failed.field-0-is c.in-Err-Failed.ensures.err logged left (λ few. c.open_at_once.ensures.grew run.ended few told) in
+    let z = failed_stop _ gives run c.args.node x d cause is c.act.new.self c.into_journal.result c.in-Err-Failed.field-0 _ c.args.out.now c.act.new.out c.into_journal.ensures c.in-Err-Failed.field-0-is c.in-Err-Failed.ensures.err logged left (c.open_at_once.ensures.grew run.ended told) in
     stopped_ok _ gives run c.args.node x d cause is _ c.open_at_once.result.0 c.open_at_once.result.1 c.args.out.now c.act.new.out z c.in-Err-Failed.ensures.err.sends (c.open_at_once.ensures.ok run _ z.device z.stops told)
 
 pub returns-in-Err-Failed-clause-err : goal.returns-in-Err-Failed-clause-err
@@ -22,7 +22,7 @@ returns-in-Err-Failed-clause-err g c = λ run x d is left has told.
     let logged = c.logged_acts.ensures run.node run.cluster x (cause_of c.args.cause.now) has in
     let gives = g.N.Node.back run.node run.cluster in
     let cause = cause_of c.args.cause.now in
-    let z = failed_stop _ gives run c.args.node x d cause is c.act.new.self c.into_journal.result c.in-Err-Failed.field-0 _ c.args.out.now c.act.new.out c.into_journal.ensures c.in-Err-Failed.field-0-is c.in-Err-Failed.ensures.err logged left (λ few. c.open_at_once.ensures.grew run.ended few told) in
+    let z = failed_stop _ gives run c.args.node x d cause is c.act.new.self c.into_journal.result c.in-Err-Failed.field-0 _ c.args.out.now c.act.new.out c.into_journal.ensures c.in-Err-Failed.field-0-is c.in-Err-Failed.ensures.err logged left (c.open_at_once.ensures.grew run.ended told) in
     stopped_err _ gives run c.args.node x d cause is _ c.open_at_once.result.0 c.open_at_once.result.1 c.args.out.now c.act.new.out z c.in-Err-Failed.ensures.err.sends (c.open_at_once.ensures.err run _ z.device z.stops told)
 
 pub returns-in-Err-Full-clause-ok : goal.returns-in-Err-Full-clause-ok
@@ -42,22 +42,22 @@ returns-in-Err-Full-clause-err g c = λ run x d is left has told.
     stopped_err _ gives run c.args.node x d cause is _ c.open_at_once-in-Err-Full.result.0 c.open_at_once-in-Err-Full.result.1 c.args.out.now c.act.new.out z c.in-Err-Full.ensures.err.sends (c.open_at_once-in-Err-Full.ensures.err run _ z.device z.stops told)
 
 pub returns-in-Ok-clause-grew : goal.returns-in-Ok-clause-grew
-returns-in-Ok-clause-grew g c = λ ended left told. done_stays _ _ ended _ c.in-Ok.ensures.ok.logs told
+returns-in-Ok-clause-grew g c = λ ended told. done_stays _ _ ended _ c.in-Ok.ensures.ok.logs told
 
 pub returns-in-Err-NoMemory-clause-grew : goal.returns-in-Err-NoMemory-clause-grew
-returns-in-Err-NoMemory-clause-grew g c = λ ended left told.
+returns-in-Err-NoMemory-clause-grew g c = λ ended told.
     refused_stays _ _ c.in-Err-NoMemory.field-0 _ _ _ _ _ ended c.in-Err-NoMemory.ensures.err (ap is_failed c.in-Err-NoMemory.field-0-is) told
 
 pub returns-in-Err-BallotsSpent-clause-grew : goal.returns-in-Err-BallotsSpent-clause-grew
-returns-in-Err-BallotsSpent-clause-grew g c = λ ended left told.
+returns-in-Err-BallotsSpent-clause-grew g c = λ ended told.
     refused_stays _ _ c.in-Err-BallotsSpent.field-0 _ _ _ _ _ ended c.in-Err-BallotsSpent.ensures.err (ap is_failed c.in-Err-BallotsSpent.field-0-is) told
 
 pub returns-in-Err-Failed-clause-grew : goal.returns-in-Err-Failed-clause-grew
-returns-in-Err-Failed-clause-grew g c = λ ended left told.
-    fault_leaves _ _ c.in-Err-Failed.field-0 _ _ _ _ _ ended c.in-Err-Failed.ensures.err c.into_journal.result c.into_journal.ensures c.in-Err-Failed.field-0-is left
-    (λ few. c.open_at_once.ensures.grew ended few told)
+returns-in-Err-Failed-clause-grew g c = λ ended told.
+    fault_leaves _ _ c.in-Err-Failed.field-0 _ _ _ _ _ ended c.in-Err-Failed.ensures.err c.into_journal.result c.into_journal.ensures c.in-Err-Failed.field-0-is
+    (c.open_at_once.ensures.grew ended told)
 
 pub returns-in-Err-Full-clause-grew : goal.returns-in-Err-Full-clause-grew
-returns-in-Err-Full-clause-grew g c = λ ended left told.
-    full_stays _ _ c.in-Err-Full.field-0 _ _ _ _ _ ended c.in-Err-Full.ensures.err c.into_journal-in-Err-Full.result c.into_journal-in-Err-Full.ensures (ap is_failed c.in-Err-Full.field-0-is) left
-    (λ few. c.open_at_once-in-Err-Full.ensures.grew ended few told)
+returns-in-Err-Full-clause-grew g c = λ ended told.
+    full_stays _ _ c.in-Err-Full.field-0 _ _ _ _ _ ended c.in-Err-Full.ensures.err c.into_journal-in-Err-Full.result c.into_journal-in-Err-Full.ensures (ap is_failed c.in-Err-Full.field-0-is)
+    (c.open_at_once-in-Err-Full.ensures.grew ended told)

@@ -22,7 +22,7 @@ returns-in-Err-ask-clause-err g c = λ run x d is_node is_cluster down is left t
     (c.crash.ensures.stops run (started_again x) began.device (c.ask.ensures.same ∙ up) (c.in-Err-ask.ensures.err run (started_again x) began.device began.host))
 
 pub returns-in-Err-ask-clause-grew : goal.returns-in-Err-ask-clause-grew
-returns-in-Err-ask-clause-grew g c = λ ended can told. c.restart.ensures.grew ended can (c.ask.ensures.grew ended (c.crash.ensures.grew ended told))
+returns-in-Err-ask-clause-grew g c = λ ended told. c.restart.ensures.grew ended (c.ask.ensures.grew ended (c.crash.ensures.grew ended told))
 
 pub returns-clause-ok : goal.returns-clause-ok
 returns-clause-ok g c = λ run x d is_node is_cluster down is left told.
@@ -37,4 +37,4 @@ returns-clause-ok g c = λ run x d is_node is_cluster down is left told.
     }
 
 pub returns-clause-grew : goal.returns-clause-grew
-returns-clause-grew g c = λ ended can told. c.restart.ensures.grew ended can (c.ask.ensures.grew ended told)
+returns-clause-grew g c = λ ended told. c.restart.ensures.grew ended (c.ask.ensures.grew ended told)

@@ -23,8 +23,8 @@ returns-in-Ok-clause-err g c = λ run x d is_node is_cluster is left kept.
     has_not_started (sight g.N.Node.seen state g.D.Disk.told g.D.Disk.content g.D.Disk.power) gives run c.start.result.0 x d _ done.1 c.start.result.1 (c.start.ensures.err run x _ is_node is_cluster done.0)
 
 pub returns-in-Ok-clause-grew : goal.returns-in-Ok-clause-grew
-returns-in-Ok-clause-grew g c = λ ended few kept.
-    told_stays (g.D.Disk.told c.args.disk) (g.D.Disk.told c.power_on.new.self) (g.D.Disk.told c.in-Ok.log.disk) ended c.power_on.ensures.told c.in-Ok.ensures.begins.calls few (c.start.ensures.grew ended kept)
+returns-in-Ok-clause-grew g c = λ ended kept.
+    told_stays (g.D.Disk.told c.args.disk) (g.D.Disk.told c.power_on.new.self) (g.D.Disk.told c.in-Ok.log.disk) ended c.power_on.ensures.told c.in-Ok.ensures.begins.calls (c.start.ensures.grew ended kept)
 
 pub returns-in-Err-NoMemory-default-clause-err : goal.returns-in-Err-NoMemory-default-clause-err
 returns-in-Err-NoMemory-default-clause-err g c = λ run x d is_node is_cluster is left kept.
@@ -34,8 +34,8 @@ returns-in-Err-NoMemory-default-clause-err g c = λ run x d is_node is_cluster i
     (sight g.N.Node.seen state g.D.Disk.told g.D.Disk.content g.D.Disk.power) c.in-Err-NoMemory-default.disk c.in-Err-NoMemory-default.field-0-0 _ (g.D.Disk.power c.power_on.new.self) _ _ _ _ refl refl refl c.in-Err-NoMemory-default.field-0-0-is c.power_on.ensures.power c.in-Err-NoMemory-default.ensures.refused (c.in-Err-NoMemory-default.ensures.same (differs _ c.in-Err-NoMemory-default.field-0-0-is))
 
 pub returns-in-Err-NoMemory-default-clause-grew : goal.returns-in-Err-NoMemory-default-clause-grew
-returns-in-Err-NoMemory-default-clause-grew g c = λ ended few kept.
-    refusal_stays _ _ (g.D.Disk.told c.args.disk) (g.D.Disk.told c.power_on.new.self) (g.D.Disk.told c.in-Err-NoMemory-default.disk) ended _ _ _ _ _ _ c.power_on.ensures.told c.in-Err-NoMemory-default.ensures.refused few kept
+returns-in-Err-NoMemory-default-clause-grew g c = λ ended kept.
+    refusal_stays _ _ (g.D.Disk.told c.args.disk) (g.D.Disk.told c.power_on.new.self) (g.D.Disk.told c.in-Err-NoMemory-default.disk) ended _ _ _ _ _ _ c.power_on.ensures.told c.in-Err-NoMemory-default.ensures.refused kept
 
 pub returns-in-Err-Failed-default-clause-err : goal.returns-in-Err-Failed-default-clause-err
 returns-in-Err-Failed-default-clause-err g c = λ run x d is_node is_cluster is left kept. (
@@ -45,9 +45,9 @@ returns-in-Err-Failed-default-clause-err g c = λ run x d is_node is_cluster is 
 )
 
 pub returns-in-Err-Failed-default-clause-grew : goal.returns-in-Err-Failed-default-clause-grew
-returns-in-Err-Failed-default-clause-grew g c = λ ended few kept.
-    refusal_stays _ _ (g.D.Disk.told c.args.disk) (g.D.Disk.told c.power_on.new.self) (g.D.Disk.told c.in-Err-Failed-default.disk) ended _ _ _ _ _ _ c.power_on.ensures.told c.in-Err-Failed-default.ensures.refused few kept
+returns-in-Err-Failed-default-clause-grew g c = λ ended kept.
+    refusal_stays _ _ (g.D.Disk.told c.args.disk) (g.D.Disk.told c.power_on.new.self) (g.D.Disk.told c.in-Err-Failed-default.disk) ended _ _ _ _ _ _ c.power_on.ensures.told c.in-Err-Failed-default.ensures.refused kept
 
 pub returns-in-Err-Damaged-default-clause-grew : goal.returns-in-Err-Damaged-default-clause-grew
-returns-in-Err-Damaged-default-clause-grew g c = λ ended few kept.
-    refusal_stays _ _ (g.D.Disk.told c.args.disk) (g.D.Disk.told c.power_on.new.self) (g.D.Disk.told c.in-Err-Damaged-default.disk) ended _ _ _ _ _ _ c.power_on.ensures.told c.in-Err-Damaged-default.ensures.refused few kept
+returns-in-Err-Damaged-default-clause-grew g c = λ ended kept.
+    refusal_stays _ _ (g.D.Disk.told c.args.disk) (g.D.Disk.told c.power_on.new.self) (g.D.Disk.told c.in-Err-Damaged-default.disk) ended _ _ _ _ _ _ c.power_on.ensures.told c.in-Err-Damaged-default.ensures.refused kept
