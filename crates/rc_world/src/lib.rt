@@ -2,19 +2,23 @@
 #![tactic(auto)]
 
 mod clients;
+mod closing;
 mod commands;
 mod coords;
 mod events;
 mod mail;
 mod nodes;
 mod noting;
+mod pendings;
 mod places;
 mod powering;
 mod receiving;
 mod restarting;
+mod rows;
 mod sending;
 mod shards;
 mod showing;
+mod shown;
 mod standing;
 mod starting;
 mod stopping;
