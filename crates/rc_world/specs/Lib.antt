@@ -14,3 +14,4 @@ pub mod Refused
 pub mod CoordActed
 pub mod Noted
 pub mod Asked
+pub mod Shown

@@ -81,6 +81,7 @@ pub record HasStarted {C S J D : Type 0} (v : Views C S J D) (r : Runs) (w : Par
 
 -- no part but the parties changed
 pub record KeepsCarried {C S : Type 0} (old new : Parts C S) : Type 0 where
+  pub cluster : new.cluster ≡ old.cluster
   pub net : new.net ≡ old.net
   pub events : new.events ≡ old.events
   pub deliveries : new.deliveries ≡ old.deliveries

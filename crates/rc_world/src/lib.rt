@@ -2,6 +2,7 @@
 #![tactic(auto)]
 
 mod clients;
+mod closing;
 mod commands;
 mod coords;
 mod events;
@@ -9,13 +10,16 @@ mod mail;
 mod nodes;
 mod noting;
 mod opening;
+mod pendings;
 mod places;
 mod powering;
 mod receiving;
 mod restarting;
+mod rows;
 mod sending;
 mod shards;
 mod showing;
+mod shown;
 mod standing;
 mod starting;
 mod stopping;

@@ -1,5 +1,5 @@
 // A world of nodes on their disks, clients and the network between them.
-ghost use Rattle.std.specs.Prelude.{IsTrue};
+ghost use Rattle.std.specs.Prelude.{◌≡◌, ◌*◌, IsTrue, length};
 ghost use Rattle.std.specs.List.{list_all};
 ghost use Rattle.rc_begin.specs.Wells.{is_well};
 ghost use Rattle.rc_world.specs.Weights.{are_of};
@@ -34,4 +34,6 @@ pub struct World<F: Farm> {
     ghost coords_are_well: { IsTrue (list_all (is_well (λ n. n.stopped)) coords.items) },
     ghost shards_are_well: { IsTrue (list_all (is_well (λ n. n.stopped)) shards.items) },
     ghost clients_are_of: { IsTrue (are_of cluster clients.cores) },
+    ghost all_coords: { length coords.items ≡ cluster.dcs },
+    ghost all_shards: { length shards.items ≡ cluster.dcs * cluster.shards },
 }
