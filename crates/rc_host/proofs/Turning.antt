@@ -242,8 +242,8 @@ module _ {N J D : Type 0} (s : Sight N J D) (gives : List (List ℕ) → NodeDur
       full_at (s.state journal) act.logs refl logged done.journal.reason same (whole (ap (λ (z : State). z.failed) same ∙ is.log.sound))
 
 -- the records are counted from those of the host that it was
-pub counts_from : {N J D : Type 0} (s : Sight N J D) (r : Result Course HostFault) (old host new : Host N J D) (act : AnyAct) → host ≡ old → IfOk r (λ course. CountsOn s host new act) → IfOk r (λ course. CountsOn s old new act)
-counts_from s r old host new act same counted = subst (λ h. IfOk r (λ course. CountsOn s h new act)) same counted
+pub counts_from : {N J D : Type 0} (s : Sight N J D) (r : Result Course HostFault) (was host new : Host N J D) (act : AnyAct) → host ≡ was → IfOk r (λ course. CountsOn s host new act) → IfOk r (λ course. CountsOn s was new act)
+counts_from s r was host new act same counted = subst (λ h. IfOk r (λ course. CountsOn s h new act)) same counted
 
 -- a host is seen as what it is
 pub same_host : {N J D : Type 0} (s : Sight N J D) (gives : List (List ℕ) → NodeDurable → Type 0) (run : Run) (host other : Host N J D) (x : Standing) (d : Device) → host ≡ other → IsHost s gives run host x d → IsHost s gives run other x d
