@@ -1,5 +1,5 @@
 -- A node that stops inside an act, as its host.
-use Rattle.std.proofs.Common.{◌≡◌, ℕ, zero, suc, ◌+◌, ◌-◌, ◌^◌, ◌<◌, List, [], ◌∷◌, ◌++◌, Bool, true, false, cond, Option, Some, None, IfSome, Ok, length, refl, sym, ap, ◌∙◌, subst, arith, length-append}
+use Rattle.std.proofs.Common.{◌≡◌, ℕ, ◌+◌, List, [], ◌∷◌, ◌++◌, Bool, true, false, cond, Option, Some, IfSome, Ok, length, sym, ap, ◌∙◌, subst, arith, length-append}
 use Rattle.std.specs.Prelude.{nat_lt}
 use Rattle.rc_disk.specs.Calls.{Told, read_bytes}
 use Rattle.rc_log.specs.Append.{keeps, with_or_without}

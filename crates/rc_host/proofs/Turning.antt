@@ -1,12 +1,12 @@
 -- A node that is up handles something: its host after that.
-use Rattle.std.proofs.Common.{◌≡◌, ℕ, ◌-◌, ◌<◌, ◌^◌, List, [], ◌∷◌, ◌++◌, Bool, true, false, Option, Some, None, option_map, IfSome, Result, Ok, Err, IfOk, IfErr, length, refl, sym, ap, ◌∙◌, subst, ◌+◌, add-zero}
+use Rattle.std.proofs.Common.{◌≡◌, ℕ, List, [], ◌∷◌, ◌++◌, Bool, true, false, Option, Some, None, IfSome, Result, Ok, Err, IfOk, IfErr, length, refl, sym, ap, ◌∙◌, subst, ◌+◌, add-zero}
 use Rattle.std.specs.Prelude.{nat_lt}
 use Rattle.rc_ids.specs.Cluster.{Layout}
 use Rattle.rc_ids.specs.Tables.{maybe}
 use Rattle.rc_ids.specs.declared.names.NodeId.{NodeId}
 use Rattle.rc_ids.specs.declared.names.NodeId.TheVariants.{Coord, Shard as ShardServer}
-use Rattle.rc_disk.specs.Calls.{Told, Reads, read_bytes}
-use Rattle.rc_log.specs.Append.{keeps, with_or_without, append_calls, stopped_at}
+use Rattle.rc_disk.specs.Calls.{read_bytes}
+use Rattle.rc_log.specs.Append.{keeps, with_or_without}
 use Rattle.rc_log.specs.Journals.{State}
 use Rattle.rc_log.specs.Records.{records}
 use Rattle.rc_msg.specs.Outboxes.{Outbox}
@@ -23,7 +23,7 @@ use Rattle.rc_protocol.specs.Nodes.{applied}
 use Rattle.rc_runs.specs.Devices.{Device, FailsAt, Full, opened, powered, read_once, called}
 use Rattle.rc_runs.specs.World.{Stops as StopsInside}
 use Rattle.rc_devices.specs.Laws.{IsTold}
-use Rattle.rc_devices.proofs.Appends.{appends_are_devices, stopped_reads}
+use Rattle.rc_devices.proofs.Appends.{appends_are_devices}
 use Rattle.rc_host.specs.AnyNode.{AnyNode, AnyAct, NodeDurable, NodeVolatile, OfShard, OfCoord, OfShardNow, OfCoordNow, node_act, act_of, new_volatile}
 use Rattle.rc_host.specs.Standing.{Standing, after_stop, course_on, device_after}
 use Rattle.rc_host.specs.declared.host.Host.{Host}
@@ -242,8 +242,8 @@ module _ {N J D : Type 0} (s : Sight N J D) (gives : List (List ℕ) → NodeDur
       full_at (s.state journal) act.logs refl logged done.journal.reason same (whole (ap (λ (z : State). z.failed) same ∙ is.log.sound))
 
 -- the records are counted from those of the host that it was
-pub counts_from : {N J D : Type 0} (s : Sight N J D) (r : Result Course HostFault) (old host new : Host N J D) (act : AnyAct) → host ≡ old → IfOk r (λ course. CountsOn s host new act) → IfOk r (λ course. CountsOn s old new act)
-counts_from s r old host new act same counted = subst (λ h. IfOk r (λ course. CountsOn s h new act)) same counted
+pub counts_from : {N J D : Type 0} (s : Sight N J D) (r : Result Course HostFault) (was host new : Host N J D) (act : AnyAct) → host ≡ was → IfOk r (λ course. CountsOn s host new act) → IfOk r (λ course. CountsOn s was new act)
+counts_from s r was host new act same counted = subst (λ h. IfOk r (λ course. CountsOn s h new act)) same counted
 
 -- a host is seen as what it is
 pub same_host : {N J D : Type 0} (s : Sight N J D) (gives : List (List ℕ) → NodeDurable → Type 0) (run : Run) (host other : Host N J D) (x : Standing) (d : Device) → host ≡ other → IsHost s gives run host x d → IsHost s gives run other x d
