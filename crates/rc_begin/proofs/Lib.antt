@@ -6,3 +6,5 @@ pub mod Behind
 pub mod BehindMore
 pub mod Serving
 pub mod Haves
+pub mod GivenBack
+pub mod Leaving

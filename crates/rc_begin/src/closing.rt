@@ -39,6 +39,17 @@ pub fn give_coords_back<F: Farm>(farm: &mut F, coords: Vec<CoordHost<F::D>>)
     }
 }
 
+/// The shard server at a place of the order d1.s1, d1.s2 and so on, then those of d2.
+fn server_at(cluster: &Cluster, place: usize) -> NodeId
+    requires { place < cluster.now.dcs * cluster.now.shards }
+    ensures { result ≡ shard_name cluster.now place }
+{
+    let shards = cluster.shards() as usize;
+    let dc = (place / shards) as u8;
+    let shard = (place % shards) as u8;
+    NodeId::Shard(DcId(dc + 1), ShardId(shard + 1))
+}
+
 /// The farm has the disks of the shard servers d1.s1, d1.s2 and so on, then those of d2 and so on back, with their power on.
 pub fn give_shards_back<F: Farm>(farm: &mut F, cluster: &Cluster, shards: Vec<ShardHost<F::D>>)
     requires few { length shards.items ≤ cluster.now.dcs * cluster.now.shards }
@@ -52,18 +63,10 @@ pub fn give_shards_back<F: Farm>(farm: &mut F, cluster: &Cluster, shards: Vec<Sh
     ensures start { (n : NodeName) → F.start farm.new n ≡ F.start farm.old n }
     ensures faults { F.faults farm.new ≡ F.faults farm.old }
 {
-    let mut dc = 1;
-    let mut shard = 1;
+    let mut place = 0;
     for host in shards {
-        give_back::<F, Shard<Log<F::D>, Locks>>(
-            farm,
-            NodeId::Shard(DcId(dc), ShardId(shard)),
-            host,
-        );
-        shard += 1;
-        if shard > cluster.shards() {
-            dc += 1;
-            shard = 1;
-        }
+        let node = server_at(cluster, place);
+        give_back::<F, Shard<Log<F::D>, Locks>>(farm, node, host);
+        place += 1;
     }
 }

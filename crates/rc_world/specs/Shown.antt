@@ -22,16 +22,16 @@ abbrev pub pending_line : List Envelope → ℕ → List Line
 pending_line sent n = maybe (message sent n) [] (λ e. PendingLine n e ∷ [])
 
 -- the keys of rows
-abbrev pub keys_of : Table (List ℕ) (ℕ × List ℕ) → List (List ℕ)
-keys_of rows = map (λ (row : List ℕ × (ℕ × List ℕ)). row.0) rows
+abbrev pub keys_in : Table (List ℕ) (ℕ × List ℕ) → List (List ℕ)
+keys_in rows = map (λ (row : List ℕ × (ℕ × List ℕ)). row.0) rows
 
 -- each key is below those after it
 abbrev pub RowsRise : Table (List ℕ) (ℕ × List ℕ) → Type 0
-RowsRise rows = IsStrictlySortedBy key_cmp (keys_of rows)
+RowsRise rows = IsStrictlySortedBy key_cmp (keys_in rows)
 
 -- the keys that were written or are held exclusively, in key order
 abbrev pub keys_shown : Table (List ℕ) (ℕ × List ℕ) → Table ℕ (List Entry) → List (List ℕ)
-keys_shown rows parts = with_held (keys_of rows) parts
+keys_shown rows parts = with_held (keys_in rows) parts
 
 -- the line of a key
 abbrev pub row_of : NodeId → Table (List ℕ) (ℕ × List ℕ) → Table ℕ (List Entry) → List ℕ → Line

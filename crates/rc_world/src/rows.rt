@@ -6,7 +6,7 @@ ghost use Rattle.rc_record.specs.Rows.{version_at, value_at};
 ghost use Rattle.rc_report.specs.declared.line.Hold.TheVariants.{Held, Free};
 ghost use Rattle.rc_protocol.specs.Shard.{holder};
 ghost use Rattle.rc_protocol.specs.Shown.{with_written, with_held};
-ghost use Rattle.rc_world.specs.Shown.{RowsRise, keys_of, keys_shown, row_of};
+ghost use Rattle.rc_world.specs.Shown.{RowsRise, keys_in, keys_shown, row_of};
 
 use rc_body::Body;
 use rc_disk::Disk;
@@ -83,7 +83,7 @@ fn add_held(keys: &mut BTreeSet<Key>, parts: &[Prepared]) -> Result<(), NoMemory
 
 /// The keys that were written.
 fn row_keys(alloc: Global, rows: &RowMap) -> Result<BTreeSet<Key>, NoMemory>
-    ensures { IfOk result (λ keys. keys.keys ≡ keys_of rows.now.entries) }
+    ensures { IfOk result (λ keys. keys.keys ≡ keys_in rows.now.entries) }
 {
     let mut keys = BTreeSet::new(alloc);
     for (key, _) in rows {
