@@ -5,3 +5,5 @@ pub mod StartFacts
 pub mod Behind
 pub mod BehindMore
 pub mod Serving
+pub mod Telling
+pub mod Refusing
