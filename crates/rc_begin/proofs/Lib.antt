@@ -7,3 +7,4 @@ pub mod BehindMore
 pub mod Serving
 pub mod Telling
 pub mod Refusing
+pub mod Homes

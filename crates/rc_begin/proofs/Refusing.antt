@@ -1,6 +1,7 @@
 -- Why all nodes did not begin, where one of them did not.
-use Rattle.std.proofs.Common.{◌≡◌, ℕ, zero, suc, ◌+◌, ◌-◌, ◌≤◌, ◌^◌, List, [], ◌∷◌, ◌++◌, Result, Ok, Err, refl, sym, ap, ◌∙◌, subst, arith, inl, inr, ⊎_elim, append_assoc}
-use Rattle.std.specs.Prelude.{min}
+use Rattle.std.proofs.Common.{◌≡◌, ℕ, zero, suc, ◌+◌, ◌-◌, ◌≤◌, ◌^◌, List, [], ◌∷◌, ◌++◌, Result, Ok, Err, refl, sym, ap, ◌∙◌, subst, arith, inl, inr, ⊎_elim, append_assoc, add-zero}
+use Rattle.std.specs.Prelude.{IfErr}
+use Rattle.std.specs.Result.{IsErrAnd}
 use Rattle.rc_ids.specs.Cluster.{Layout}
 use Rattle.rc_ids.specs.declared.names.NodeId.{NodeId}
 use Rattle.rc_runs.specs.Session.{Halt, FarmFails}
@@ -42,11 +43,17 @@ module _ (p : Place) (c : Layout) where
 
 -- LISTS that grow step by step
 pub grows : {X : Type 0} (f : ℕ → List X) (more : ℕ → List X) → ((n : ℕ) → f (suc n) ≡ f n ++ more n) → (n k : ℕ) → (rest : List X) × (f (n + k) ≡ f n ++ rest)
-grows f more step n zero = ([], grows_none (f n))
+grows f more step n zero = ([], ap f (add-zero n) ∙ grows_none (f n))
   where
     grows_none : {Y : Type 0} (xs : List Y) → xs ≡ xs ++ []
     grows_none [] = refl
     grows_none (x ∷ xs) = ap (λ ys. x ∷ ys) (grows_none xs)
 grows f more step n (suc k) =
     let before = grows f more step n k in
-    (before.0 ++ more (n + k), step (n + k) ∙ ap (λ xs. xs ++ more (n + k)) before.1 ∙ append_assoc (f n) before.0 (more (n + k)))
+    let next : n + suc k ≡ suc (n + k) = omega arith in
+    (before.0 ++ more (n + k), ap f next ∙ step (n + k) ∙ ap (λ xs. xs ++ more (n + k)) before.1 ∙ append_assoc (f n) before.0 (more (n + k)))
+
+-- a fault is given on as it is
+pub given_on : {X : Type 0} (P : WorldFault → Type 0) (result : Result X WorldFault) (fault : WorldFault) → IsErrAnd result (λ e. e ≡ fault) → P fault → IfErr result P
+given_on P (Ok x) fault is holds = tt
+given_on P (Err e) fault is holds = subst P (sym is) holds
