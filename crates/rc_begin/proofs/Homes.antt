@@ -1,7 +1,7 @@
 -- The disks that the farm has, as the nodes of a datacentre begin.
 use Rattle.std.proofs.Common.{◌≡◌, ℕ, zero, suc, ◌+◌, ◌-◌, ◌*◌, ◌<◌, ◌≤◌, Bool, true, false, List, [], ◌∷◌, ◌++◌, Ok, refl, sym, ap, ◌∙◌, subst, arith, ⊎_elim, append_assoc, add-one}
 use Rattle.std.specs.Prelude.{◌≢◌, ◌&&◌}
-use Rattle.std.proofs.lemmas.List.{map-append}
+use Rattle.std.proofs.lemmas.List.{map-append, append-nil}
 use Rattle.rc_ids.specs.Tables.{up_to}
 use Rattle.rc_ids.specs.Cluster.{Layout, is_dc, is_shard}
 use Rattle.rc_ids.specs.declared.names.NodeId.{NodeId}
@@ -54,6 +54,9 @@ of_world r c d sh same dc shard = subst (λ (k : Layout). is_node_of k (ShardSer
     both true b x y = y
     both false b x y = absurd cc
 
+le_same : (a : ℕ) → a ≤ a
+le_same a = omega arith
+
 all_servers : (d m k : ℕ) → (rest : List NodeId) × (servers d (m + k) ≡ servers d m ++ rest)
 all_servers d m k = grows (servers d) (λ n. ShardServer d (suc n) ∷ []) (λ n. map-append (λ (sh : ℕ). ShardServer d sh) (up_to n) (suc n ∷ [])) m k
 
@@ -65,11 +68,20 @@ server_refused p c before was now earlier nodes d n m few xs all fault h =
     let rest = all_servers d (n + 1) (m - (n + 1)) in
     some_refused p c before was now now earlier (le_same now) (nodes ++ servers d (n + 1)) rest.0 (nodes ++ servers d m)
     (ap (λ (k : ℕ). nodes ++ servers d k) (sym is) ∙ ap (λ (ns : List NodeId). nodes ++ ns) rest.1 ∙ sym (append_assoc nodes (servers d (n + 1)) rest.0)) fault
-    (some_refused p c was was now now (le_same was) (le_same now) ((nodes ++ servers d n) ++ ShardServer d (n + 1) ∷ []) [] (nodes ++ servers d (n + 1)) (sym (servers_more nodes d n) ∙ end_none _)
+    (some_refused p c was was now now (le_same was) (le_same now) ((nodes ++ servers d n) ++ ShardServer d (n + 1) ∷ []) [] (nodes ++ servers d (n + 1)) (sym (servers_more nodes d n) ∙ sym (append-nil _))
     fault (one_refused p c was was now now (le_same was) (le_same now) (nodes ++ servers d n) [] (ShardServer d (n + 1)) xs all fault h))
-  where
-    le_same : (a : ℕ) → a ≤ a
-    le_same a = omega arith
-    end_none : {Y : Type 0} (xs : List Y) → xs ≡ xs ++ []
-    end_none [] = refl
-    end_none (x ∷ xs) = ap (λ ys. x ∷ ys) (end_none xs)
+
+-- THE COORDINATOR of a datacentre, and then its shard servers
+pub dc_of_world : (r : Runs) (c : Layout) (d : ℕ) → r.cluster ≡ c → is_dc c d ≡ true → is_node_of r.cluster (Coord d) ≡ true
+dc_of_world r c d same dc = subst (λ (k : Layout). is_node_of k (Coord d) ≡ true) (sym same) dc
+
+module _ (p : Place) (c : Layout) where
+  pub coord_refused : (before now : ℕ) (nodes : List NodeId) (d m : ℕ) (xs : List Begun) → begins_all p c nodes ≡ Ok xs
+      → (fault : WorldFault) → BeginRefused before now (begins_node p c (Coord d)) fault → BeginRefused before now (begins_all p c (nodes ++ Coord d ∷ servers d m)) fault
+  coord_refused before now nodes d m xs all fault h = one_refused p c before before now now (le_same before) (le_same now) nodes (servers d m) (Coord d) xs all fault h
+
+  pub dc_refused : (before was now : ℕ) → before ≤ was → (nodes : List NodeId) (d m : ℕ)
+      → (fault : WorldFault) → BeginRefused was now (begins_all p c ((nodes ++ Coord d ∷ []) ++ servers d m)) fault → BeginRefused before now (begins_all p c (nodes ++ Coord d ∷ servers d m)) fault
+  dc_refused before was now earlier nodes d m fault h =
+      some_refused p c before was now now earlier (le_same now) ((nodes ++ Coord d ∷ []) ++ servers d m) [] (nodes ++ Coord d ∷ servers d m)
+      (sym (append_assoc nodes (Coord d ∷ []) (servers d m)) ∙ sym (append-nil _)) fault h

@@ -2,6 +2,7 @@
 use Rattle.std.proofs.Common.{◌≡◌, ℕ, zero, suc, ◌+◌, ◌-◌, ◌≤◌, ◌^◌, List, [], ◌∷◌, ◌++◌, Result, Ok, Err, refl, sym, ap, ◌∙◌, subst, arith, inl, inr, ⊎_elim, append_assoc, add-zero}
 use Rattle.std.specs.Prelude.{IfErr}
 use Rattle.std.specs.Result.{IsErrAnd}
+use Rattle.std.proofs.lemmas.List.{append-nil}
 use Rattle.rc_ids.specs.Cluster.{Layout}
 use Rattle.rc_ids.specs.declared.names.NodeId.{NodeId}
 use Rattle.rc_runs.specs.Session.{Halt, FarmFails}
@@ -43,11 +44,7 @@ module _ (p : Place) (c : Layout) where
 
 -- LISTS that grow step by step
 pub grows : {X : Type 0} (f : ℕ → List X) (more : ℕ → List X) → ((n : ℕ) → f (suc n) ≡ f n ++ more n) → (n k : ℕ) → (rest : List X) × (f (n + k) ≡ f n ++ rest)
-grows f more step n zero = ([], ap f (add-zero n) ∙ grows_none (f n))
-  where
-    grows_none : {Y : Type 0} (xs : List Y) → xs ≡ xs ++ []
-    grows_none [] = refl
-    grows_none (x ∷ xs) = ap (λ ys. x ∷ ys) (grows_none xs)
+grows f more step n zero = ([], ap f (add-zero n) ∙ sym (append-nil (f n)))
 grows f more step n (suc k) =
     let before = grows f more step n k in
     let next : n + suc k ≡ suc (n + k) = omega arith in
@@ -57,3 +54,7 @@ grows f more step n (suc k) =
 pub given_on : {X : Type 0} (P : WorldFault → Type 0) (result : Result X WorldFault) (fault : WorldFault) → IsErrAnd result (λ e. e ≡ fault) → P fault → IfErr result P
 given_on P (Ok x) fault is holds = tt
 given_on P (Err e) fault is holds = subst P (sym is) holds
+
+pub if_err_weaker : {X E : Type 0} {P Q : E → Type 0} (result : Result X E) → ((e : E) → P e → Q e) → IfErr result P → IfErr result Q
+if_err_weaker (Ok x) weaker h = tt
+if_err_weaker (Err e) weaker h = weaker e h
