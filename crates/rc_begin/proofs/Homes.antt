@@ -47,12 +47,15 @@ module _ (start old new : NodeId → Standing) (lent_old lent_new : NodeId → B
 pub next_place : (r : Runs) (c : Layout) (d n start now : ℕ) → r.cluster ≡ c → is_dc c d ≡ true → n < c.shards → now ≡ start + n → start ≡ (d - 1) * c.shards → shard_name r.cluster now ≡ ShardServer d (n + 1)
 next_place r c d n start now same dc few more long = ap (λ (k : Layout). shard_name k now) same ∙ next_name c d n now dc few (more ∙ ap (λ (k : ℕ). k + n) long)
 
-pub of_world : (r : Runs) (c : Layout) (d sh : ℕ) → r.cluster ≡ c → is_dc c d ≡ true → is_shard c sh ≡ true → is_node_of r.cluster (ShardServer d sh) ≡ true
-of_world r c d sh same dc shard = subst (λ (k : Layout). is_node_of k (ShardServer d sh) ≡ true) (sym same) (both (is_dc c d) (is_shard c sh) dc shard)
+pub server_of_world : (c : Layout) (d sh : ℕ) → is_dc c d ≡ true → is_shard c sh ≡ true → is_node_of c (ShardServer d sh) ≡ true
+server_of_world c d sh dc shard = both (is_dc c d) (is_shard c sh) dc shard
   where
     both : (a b : Bool) → a ≡ true → b ≡ true → (a && b) ≡ true
     both true b x y = y
     both false b x y = absurd cc
+
+pub of_world : (r : Runs) (c : Layout) (d sh : ℕ) → r.cluster ≡ c → is_dc c d ≡ true → is_shard c sh ≡ true → is_node_of r.cluster (ShardServer d sh) ≡ true
+of_world r c d sh same dc shard = subst (λ (k : Layout). is_node_of k (ShardServer d sh) ≡ true) (sym same) (server_of_world c d sh dc shard)
 
 le_same : (a : ℕ) → a ≤ a
 le_same a = omega arith

@@ -8,3 +8,5 @@ pub mod Serving
 pub mod Telling
 pub mod Refusing
 pub mod Homes
+pub mod Firsts
+pub mod AllBegin

@@ -32,16 +32,16 @@ last_of (o ∷ os) (n ∷ ns) long front =
     (rest.0, ap (λ ys. n ∷ ys) rest.1 ∙ ap (λ y. y ∷ (os ++ rest.0 ∷ [])) head)
 
 -- THE SAME NODE, or another
-no_coord : (d e sh : ℕ) → ShardServer e sh ≡ Coord d → ⊥
+pub no_coord : (d e sh : ℕ) → ShardServer e sh ≡ Coord d → ⊥
 no_coord d e sh same = cc
 
-coord_number : (d e : ℕ) → Coord e ≡ Coord d → e ≡ d
+pub coord_number : (d e : ℕ) → Coord e ≡ Coord d → e ≡ d
 coord_number d e same = cc
 
 shard_number : (d sh e th : ℕ) → ShardServer e th ≡ ShardServer d sh → th ≡ sh
 shard_number d sh e th same = cc
 
-dc_number : (d sh e th : ℕ) → ShardServer e th ≡ ShardServer d sh → e ≡ d
+pub dc_number : (d sh e th : ℕ) → ShardServer e th ≡ ShardServer d sh → e ≡ d
 dc_number d sh e th same = cc
 
 pub same_node : (node n : NodeId) → (n ≡ node) ⊎ (n ≡ node → ⊥)
