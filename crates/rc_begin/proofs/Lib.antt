@@ -8,3 +8,8 @@ pub mod Serving
 pub mod Haves
 pub mod GivenBack
 pub mod Leaving
+pub mod Telling
+pub mod Refusing
+pub mod Homes
+pub mod Firsts
+pub mod AllBegin

@@ -1,5 +1,5 @@
 -- How a node of a world begins, on a disk that its farm lends.
-use Rattle.std.specs.Prelude.{◌≡◌, ◌≤◌, ◌+◌, ◌-◌, ◌^◌, ◌⊎◌, ◌++◌, ℕ, min, List, [], ◌∷◌, Some, IfSome, Err, Result}
+use Rattle.std.specs.Prelude.{◌≡◌, ◌≤◌, ◌+◌, ◌-◌, ◌^◌, ◌⊎◌, ◌++◌, ℕ, min, List, [], ◌∷◌, Option, Some, IfSome, Err, Result}
 use Rattle.rc_ids.specs.declared.names.NodeId.{NodeId}
 use Rattle.rc_disk.specs.declared.power.Power.TheVariants.{On}
 use Rattle.rc_disk.specs.declared.farm.DeviceRefusal.{DeviceRefusal}
@@ -10,7 +10,7 @@ use Rattle.rc_report.specs.declared.fault.Which.TheVariants.{Log as LogOf}
 use Rattle.rc_runs.specs.Farms.{numbers_since, failed_by, is_by_list, calls_at, reads_at}
 use Rattle.rc_runs.specs.Session.{Halt, Limited, LogRefused, FarmFails}
 use Rattle.rc_runs.specs.Stored.{Place, Begun}
-use Rattle.rc_devices.specs.Disks.{AreWithin, AllWithin}
+use Rattle.rc_devices.specs.Disks.{AreWithin, AllWithin, IsKept}
 use Rattle.rc_host.specs.AnyNode.{NodeDurable}
 use Rattle.rc_host.specs.Hosts.{Sight, Run, IsToldBy}
 use Rattle.rc_host.specs.Begins.{HasBegun}
@@ -65,3 +65,7 @@ pub record IsNext {N J D : Type 0} (s : Sight N J D) (gives : List (List ℕ) �
   pub hosts_are : hosts_now ≡ hosts ++ host ∷ []
   pub logs_are : logs_now ≡ logs ++ blobs ∷ []
   pub begun : IsToldBy s host run.ended → HasBegun s gives run begins host blobs
+
+-- what the disk of the last host told before, is told at the end still where that is so of what it tells now
+abbrev pub LastGrew : {N J D : Type 0} → Sight N J D → List (Host N J D) → List (Host N J D) → Option Told → Type 0
+LastGrew {N} {J} {D} s hosts hosts_now told = (host : Host N J D) (ended : Told) → hosts_now ≡ hosts ++ host ∷ [] → IsToldBy s host ended → IfSome told (λ t. IsKept t ended)

@@ -1,6 +1,8 @@
 // A node begins on a disk that the farm lends.
 ghost use Rattle.std.specs.Prelude.{◌≡◌, ◌≢◌, ◌≤◌, false, true, OnOk, OnErr, IfOk, IfErr, IfSome};
 ghost use Rattle.rc_ids.specs.declared.names.NodeId.{NodeId as NodeName};
+ghost use Rattle.rc_disk.specs.declared.power.Power.TheVariants.{On};
+ghost use Rattle.rc_disk.specs.Calls.{Told};
 ghost use Rattle.rc_record.specs.Heads.{new_head};
 ghost use Rattle.rc_record.specs.Spelling.{HasHead};
 ghost use Rattle.rc_runs.specs.Stored.{Place, begins_node};
@@ -72,6 +74,9 @@ pub(crate) fn begin_at<F: Farm, N: Node<Log<F::D>>>(
     ensures err { (run : Run) (p : Place) → run.node ≡ node → run.cluster ≡ cluster.now → p.lend_fails run.node ≡ false → IsStartOf p run (F.stands farm.old run.node)
         → IfErr result (λ fault. IfSome (F.stands farm.new run.node).told (λ t. IsKept t run.ended)
         → BeginRefused (F.faults farm.old) (F.faults farm.new) (begins_node p run.cluster run.node) fault) }
+    ensures grew { IfOk result (λ b. (ended : Told) → IsToldBy (sight N.seen ⟦<Log<F::D> as Journal>⟧.state F.D.told F.D.content F.D.power) b.0 ended → IfSome (F.stands farm.old node).told (λ t. IsKept t ended)) }
+    ensures grew_err { OnErr result ((ended : Told) → IfSome (F.stands farm.new node).told (λ t. IsKept t ended) → IfSome (F.stands farm.old node).told (λ t. IsKept t ended)) }
+    ensures on { OnErr result ((F.stands farm.old node).power ≡ On → (F.stands farm.new node).power ≡ On) }
     ensures up { IfOk result (λ b. IfUp b.0 (λ node. (N.seen node).stopped ≡ false)) }
     ensures there { IfOk result (λ b. IsThere b.0) }
     ensures lent { OnOk result (F.is_lent farm.new node ≡ true) }

@@ -9,7 +9,7 @@ ghost use Rattle.rc_disk.specs.Calls.{Told};
 ghost use Rattle.rc_host.specs.Hosts.{Run, IfUp, IsThere, IsToldBy, sight};
 ghost use Rattle.rc_begin.specs.declared.fault.WorldFault.TheVariants.{NoMemory as OutOfMemory};
 ghost use Rattle.rc_begin.specs.Wells.{is_well};
-ghost use Rattle.rc_begin.specs.Beginnings.{IsStartOf, IsNext, BeginRefused};
+ghost use Rattle.rc_begin.specs.Beginnings.{IsStartOf, IsNext, BeginRefused, LastGrew};
 
 use crate::WorldFault;
 use crate::beginning::begin_at;
@@ -54,6 +54,8 @@ fn add_begun<F: Farm, N: Node<Log<F::D>>>(
     ensures hosts { OnOk result (hosts.new.items ≡ hosts.old.items ++ begun.0 ∷ []) }
     ensures logs { OnOk result (logs.new.items ≡ logs.old.items ++ begun.1 ∷ []) }
     ensures err { IfErr result (λ fault. fault ≡ OutOfMemory) }
+    ensures told { OnErr result ((ended : Told) → IfSome (F.stands farm.new node).told (λ t. IsKept t ended) → IsToldBy (sight N.seen ⟦<Log<F::D> as Journal>⟧.state F.D.told F.D.content F.D.power) begun.0 ended) }
+    ensures on { OnErr result ((F.stands farm.new node).power ≡ On) }
     ensures kept { OnErr result (hosts.new.items ≡ hosts.old.items) }
     ensures well { IsTrue (list_all (is_well (λ n. (N.seen n).stopped)) hosts.new.items) }
     ensures lent { OnOk result (F.is_lent farm.new node ≡ true) }
@@ -94,6 +96,9 @@ pub(crate) fn begin_next<F: Farm, N: Node<Log<F::D>>>(
     ensures err { (run : Run) (p : Place) → run.node ≡ node.now → run.cluster ≡ cluster.now → p.lend_fails run.node ≡ false → IsStartOf p run (F.stands farm.old run.node)
         → IfErr result (λ fault. IfSome (F.stands farm.new run.node).told (λ t. IsKept t run.ended)
         → BeginRefused (F.faults farm.old) (F.faults farm.new) (begins_node p run.cluster run.node) fault) }
+    ensures grew { OnOk result (LastGrew (sight N.seen ⟦<Log<F::D> as Journal>⟧.state F.D.told F.D.content F.D.power) hosts.old.items hosts.new.items (F.stands farm.old node.now).told) }
+    ensures grew_err { OnErr result ((ended : Told) → IfSome (F.stands farm.new node.now).told (λ t. IsKept t ended) → IfSome (F.stands farm.old node.now).told (λ t. IsKept t ended)) }
+    ensures on { OnErr result ((F.stands farm.old node.now).power ≡ On → (F.stands farm.new node.now).power ≡ On) }
     ensures more { OnOk result (length hosts.new.items ≡ length hosts.old.items + 1) }
     ensures front { OnOk result (take (length hosts.old.items) hosts.new.items ≡ hosts.old.items) }
     ensures kept { OnErr result (hosts.new.items ≡ hosts.old.items) }

@@ -9,6 +9,7 @@ mod gathering;
 mod hosts;
 mod named;
 mod nodes_begin;
+mod opening;
 mod orders;
 
 pub use closing::{give_coords_back, give_shards_back};
@@ -18,4 +19,5 @@ pub use gathering::give_back;
 pub use hosts::{CoordHost, ShardHost};
 pub use named::names_of_logs;
 pub use nodes_begin::Gathered;
+pub use opening::begin_all;
 pub use orders::order_of_logs;

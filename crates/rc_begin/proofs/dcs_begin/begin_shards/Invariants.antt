@@ -1,4 +1,4 @@
-use Rattle.std.proofs.Common.{◌≡◌, ℕ, ◌+◌, ◌-◌, ◌*◌, ◌<◌, List, length, take, ◌++◌, IsTrue}
+use Rattle.std.proofs.Common.{◌≡◌, ℕ, ◌+◌, ◌-◌, ◌*◌, ◌<◌, ◌≤◌, false, List, length, take, ◌++◌, IsTrue}
 use Rattle.std.specs.Prelude.{◌≢◌}
 use Rattle.std.specs.List.{list_all}
 use Rattle.rc_ids.specs.Cluster.{is_shard}
@@ -10,6 +10,7 @@ use Rattle.rc_runs.specs.Stored.{Place}
 use Rattle.rc_begin.specs.Wells.{is_well}
 use Rattle.rc_begin.specs.Hosts.{Runs, ShardsAreTold}
 use Rattle.rc_begin.specs.Hosts.{views}
+use Rattle.rc_begin.specs.Starts.{AreTold}
 use Rattle.rc_begin.specs.Gatherings.{AreGathered, IsLendable, are_lent, servers}
 use Rattle.rc_begin.proofs.dcs_begin.begin_shards.Given as goal
 
@@ -19,13 +20,18 @@ invariant-loop-count g l =
     record {
       lent : (sh : ℕ) → g.F.Farm.is_lent l.farm (ShardServer l.dc sh) ≡ are_lent l.count sh;
       stands : (sh : ℕ) → l.count < sh → g.F.Farm.stands l.farm (ShardServer l.dc sh) ≡ g.F.Farm.stands l.initial.farm (ShardServer l.dc sh);
+      home : (n : NodeId) → g.F.Farm.is_lent l.farm n ≡ false → g.F.Farm.stands l.farm n ≡ g.F.Farm.stands l.initial.farm n;
+      later : g.F.Farm.faults l.initial.farm ≤ g.F.Farm.faults l.farm;
+      told : (r : Runs) → r.cluster ≡ l.cluster → length l.initial.all.shards.items ≡ (l.dc - 1) * l.cluster.shards
+          → AreTold (views state g.F.D.Disk.told g.F.D.Disk.content g.F.D.Disk.power) r (g.F.Farm.is_lent l.farm) (g.F.Farm.stands l.farm) l.all.coords.items l.all.shards.items
+          → AreTold (views state g.F.D.Disk.told g.F.D.Disk.content g.F.D.Disk.power) r (g.F.Farm.is_lent l.initial.farm) (g.F.Farm.stands l.initial.farm) l.initial.all.coords.items l.initial.all.shards.items;
       rest : l.all.coords.items ≡ l.initial.all.coords.items;
       rest_logs : l.all.coord_logs.items ≡ l.initial.all.coord_logs.items;
       more : length l.all.shards.items ≡ length l.initial.all.shards.items + l.count;
       front : take (length l.initial.all.shards.items) l.all.shards.items ≡ l.initial.all.shards.items;
       well : IsTrue (list_all (is_well (λ n. n.stopped)) l.all.shards.items);
       others_lent : (n : NodeId) → ((sh : ℕ) → n ≢ ShardServer l.dc sh) → g.F.Farm.is_lent l.farm n ≡ g.F.Farm.is_lent l.initial.farm n;
-      others : (n : NodeId) → ((sh : ℕ) → n ≢ ShardServer l.dc sh) → g.F.Farm.stands l.farm n ≡ g.F.Farm.stands l.initial.farm n;
+      others : (n : NodeId) → ((sh : ℕ) → IsTrue (is_shard l.cluster sh) → n ≢ ShardServer l.dc sh) → g.F.Farm.stands l.farm n ≡ g.F.Farm.stands l.initial.farm n;
       start : (n : NodeId) → g.F.Farm.start l.farm n ≡ g.F.Farm.start l.initial.farm n;
       gathered : (r : Runs) (p : Place) (nodes : List NodeId) → r.cluster ≡ l.cluster → length l.initial.all.shards.items ≡ (l.dc - 1) * l.cluster.shards
           → ((sh : ℕ) → IsTrue (is_shard l.cluster sh) → IsLendable p r (g.F.Farm.stands l.initial.farm) (ShardServer l.dc sh))
