@@ -7,13 +7,13 @@ use Rattle.rc_disk.specs.declared.power.Cause.{Cause}
 use Rattle.rc_disk.specs.declared.power.Cause.TheVariants.{ByList, ByCut, WhileOff}
 use Rattle.rc_disk.specs.declared.power.Failure.{Failure}
 use Rattle.std.specs.Prelude.{◌==◌}
-use Rattle.rc_disk.specs.Calls.{Told, Call, Numbers, Reads, after_done, after_failed, is_on, cause_at, powered as powered_disk}
+use Rattle.rc_disk.specs.Calls.{Told, Call, Numbers, Reads, after_done, is_on, cause_at}
 use Rattle.rc_disk.specs.Places.{Start}
-use Rattle.rc_log.specs.Append.{append_calls, all_done, stopped_at, numbers_of, counted_by, stopped_by, power_past, cause_of_call, FailedAt}
+use Rattle.rc_log.specs.Append.{append_calls, all_done, stopped_at, numbers_of, counted_by, stopped_by, power_past, cause_of_call}
 use Rattle.rc_log.specs.Journals.{State, Appends, Fails, passes, would_pass_limit}
-use Rattle.rc_runs.specs.Devices.{Device, Fate, Made, Full, FailsAt, appends, appended, in_a_row, is_kept, is_too_long, offset_after, at_offset, most_log_bytes, powered}
+use Rattle.rc_runs.specs.Devices.{Device, Fate, Made, Full, FailsAt, appended, in_a_row, is_kept, is_too_long, offset_after, at_offset, most_log_bytes, powered}
 use Rattle.rc_runs.specs.Farms.{calls_at, reads_at}
-use Rattle.rc_devices.specs.Disks.{AreKept, AreWithin, IsKept, IsShown, ReadsAreShown, IsDisk, IsLog, power_of, calls_made}
+use Rattle.rc_devices.specs.Disks.{AreKept, IsKept, IsShown, ReadsAreShown, IsLog, power_of, calls_made}
 use Rattle.rc_devices.specs.Laws.{IsTold, IsMade, IsFailed, AppendsAreDevices}
 use Rattle.rc_devices.proofs.Numbers.{within_more, within_last}
 use Rattle.rc_devices.proofs.Rows.{all_made, one_failed, failure, counts, same_list, same_reads, same_read_list, same_offset}

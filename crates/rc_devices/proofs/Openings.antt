@@ -1,24 +1,22 @@
 -- Cuts, openings and creations, as a device makes them.
-use Rattle.std.proofs.Common.{◌≡◌, ℕ, zero, suc, ◌+◌, ◌-◌, ◌^◌, ◌≤◌, ◌<◌, List, [], ◌∷◌, ◌++◌, refl, sym, ap, ◌∙◌, subst, Bool, true, false, cond, Option, Some, None, option_map, IsTrue, arith, min}
-use Rattle.std.specs.Prelude.{◌==◌, ◌||◌}
+use Rattle.std.proofs.Common.{◌≡◌, ℕ, zero, suc, ◌+◌, ◌-◌, ◌^◌, ◌≤◌, ◌<◌, List, [], ◌∷◌, ◌++◌, refl, sym, ap, ◌∙◌, subst, Bool, true, false, cond, Option, Some, None, option_map, IsTrue, arith}
+use Rattle.std.specs.Prelude.{◌||◌}
 use Rattle.std.proofs.lemmas.Bool.{eq-eqb}
 use Rattle.rc_ids.specs.Tables.{maybe}
 use Rattle.rc_ports.specs.Causes.{raised}
 use Rattle.rc_disk.specs.declared.power.Power.{Power}
 use Rattle.rc_disk.specs.declared.power.Power.TheVariants.{On, Armed}
 use Rattle.rc_disk.specs.declared.power.Cause.{Cause}
-use Rattle.rc_disk.specs.Calls.{Told, Numbers, Reads, is_on, cause_at, read_failed, armed as armed_disk, powered as powered_disk}
+use Rattle.rc_disk.specs.Calls.{Told, Numbers, Reads, is_on, cause_at, read_failed, armed as armed_disk}
 use Rattle.rc_disk.specs.Places.{Start}
-use Rattle.rc_log.specs.Append.{create_calls, all_done, numbers_of, counted_by, stopped_by, power_past, cause_of_call}
-use Rattle.rc_log.specs.Opening.{synced_and_read, told_reads, numbers_refused, reads_refused, refusal_cause, FailsToOpen, FailsToBegin}
-use Rattle.rc_log.specs.Journals.{State, with_cut}
-use Rattle.rc_runs.specs.Devices.{Device, Made, FailsAt, is_number, next_fails, called, read_fails, read_once, opened, created, powered, armed, in_a_row}
+use Rattle.rc_log.specs.Append.{counted_by, stopped_by, power_past, cause_of_call}
+use Rattle.rc_log.specs.Opening.{synced_and_read, numbers_refused, reads_refused, refusal_cause}
+use Rattle.rc_runs.specs.Devices.{Device, is_number, called, read_fails, read_once, opened}
 use Rattle.rc_runs.specs.Farms.{reads_at}
-use Rattle.rc_devices.specs.Disks.{AllWithin, AreKept, ReadsAreKept, IsKept, IsShown, ReadsAreShown, IsDisk, IsLog, calls_made}
+use Rattle.rc_devices.specs.Disks.{AllWithin, AreKept, ReadsAreKept, IsKept, IsShown, ReadsAreShown, IsDisk, calls_made}
 use Rattle.rc_devices.specs.Laws.{CutsAreDevices, OpeningsAreDevices, CreationsAreDevices}
-use Rattle.rc_devices.proofs.Numbers.{within_more}
 use Rattle.rc_devices.proofs.ReadNumbers.{reads_are, number_in_both, number_not_within, number_not_above, all_within_more}
-use Rattle.rc_devices.proofs.Rows.{no_fault, next_is_told, called_shown, all_made, failure, same_reads, same_read_list}
+use Rattle.rc_devices.proofs.Rows.{no_fault, next_is_told, called_shown, all_made, failure}
 use Rattle.rc_devices.proofs.Appends.{some_inj, stops}
 use Rattle.rc_devices.proofs.Staying.{one_read_more}
 

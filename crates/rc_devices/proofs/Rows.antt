@@ -1,5 +1,5 @@
 -- Calls in a row: the device of the run makes those that the disk made, and fails where it failed.
-use Rattle.std.proofs.Common.{◌≡◌, ℕ, zero, suc, ◌+◌, ◌-◌, ◌≤◌, ◌<◌, List, [], ◌∷◌, ◌++◌, refl, sym, ap, ◌∙◌, subst, Bool, true, false, cond, Option, Some, None, arith, append_assoc}
+use Rattle.std.proofs.Common.{◌≡◌, ℕ, zero, suc, ◌+◌, ◌-◌, ◌<◌, List, [], ◌∷◌, ◌++◌, refl, sym, ap, ◌∙◌, subst, Bool, true, false, cond, Option, Some, None, arith, append_assoc}
 use Rattle.std.specs.Prelude.{◌==◌, ◌||◌, ◌&&◌, IsTrue}
 use Rattle.std.proofs.lemmas.Bool.{eq-eqb}
 use Rattle.rc_ids.specs.Tables.{maybe}
@@ -11,9 +11,9 @@ use Rattle.rc_disk.specs.declared.power.Failure.{Failure}
 use Rattle.rc_disk.specs.Calls.{power_after, cause_at, holds, is_on}
 use Rattle.rc_disk.specs.Places.{Start}
 use Rattle.rc_log.specs.Append.{power_past}
-use Rattle.rc_runs.specs.Devices.{Device, Fate, Made, FailsAt, is_number, listed, falls_now, next_fails, nearer, called, in_a_row}
+use Rattle.rc_runs.specs.Devices.{Device, Made, FailsAt, is_number, listed, falls_now, next_fails, nearer, called, in_a_row}
 use Rattle.rc_runs.specs.Farms.{is_by_list, calls_at}
-use Rattle.rc_devices.specs.Disks.{power_of, AreKept, AreWithin, AreAbove, IsShown, calls_made}
+use Rattle.rc_devices.specs.Disks.{power_of, AreKept, IsShown, calls_made}
 use Rattle.rc_devices.proofs.Numbers.{among, numbers_are, among_both, none_within, none_above, within_more, above_less}
 
 -- POWER

@@ -1,9 +1,9 @@
 -- What a disk told before a call is told still after it.
-use Rattle.std.proofs.Common.{◌≡◌, ℕ, zero, suc, ◌+◌, ◌-◌, ◌^◌, ◌≤◌, ◌<◌, List, [], ◌∷◌, ◌++◌, refl, ap, ◌∙◌, subst, sym, arith}
+use Rattle.std.proofs.Common.{◌≡◌, ℕ, ◌+◌, ◌-◌, ◌^◌, ◌≤◌, ◌<◌, List, [], ◌∷◌, ◌++◌, refl, arith}
 use Rattle.rc_ports.specs.Causes.{raised}
 use Rattle.rc_disk.specs.declared.power.Cause.{Cause}
 use Rattle.rc_disk.specs.declared.power.Failure.{Failure}
-use Rattle.rc_devices.specs.Disks.{AllAbove, AreAbove, AreKept, ReadsAreKept}
+use Rattle.rc_devices.specs.Disks.{AreKept, ReadsAreKept}
 use Rattle.rc_devices.proofs.Numbers.{above_less}
 use Rattle.rc_devices.proofs.ReadNumbers.{all_above_less}
 use Rattle.rc_devices.proofs.Rows.{failure, kept_before}

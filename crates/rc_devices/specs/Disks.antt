@@ -1,6 +1,6 @@
 -- A disk that tells its calls, as a device of a run in the place that is read off its farm at the end: the device's calls are those of the
 -- disk since the start, and its failing calls are those that the disk tells at the end.
-use Rattle.std.specs.Prelude.{◌≡◌, ◌<◌, ◌≤◌, ◌+◌, ◌-◌, ◌^◌, ◌++◌, ℕ, zero, suc, List, [], ◌∷◌, Option, None, Some, IfSome}
+use Rattle.std.specs.Prelude.{◌≡◌, ◌<◌, ◌≤◌, ◌+◌, ◌-◌, ◌^◌, ◌++◌, ℕ, zero, suc, List, [], ◌∷◌, Option, None, Some}
 use Rattle.rc_disk.specs.declared.power.Power.{Power}
 use Rattle.rc_disk.specs.declared.power.Power.TheVariants.{On, Armed}
 use Rattle.rc_disk.specs.declared.power.Failure.{Failure}

@@ -1,9 +1,9 @@
 -- What the calls of a log on a disk that tells them are to the devices of a run.
-use Rattle.std.specs.Prelude.{◌≡◌, ◌+◌, ℕ, false, true, List, length, Option, None, Some, IfSome, if◌then◌else◌}
+use Rattle.std.specs.Prelude.{◌≡◌, ℕ, false, true, List, length, None, Some, IfSome, if◌then◌else◌}
 use Rattle.rc_disk.specs.declared.power.Cause.{Cause}
 use Rattle.rc_disk.specs.declared.power.Power.{Power}
 use Rattle.rc_disk.specs.declared.power.Power.TheVariants.{On}
-use Rattle.rc_disk.specs.Calls.{Told, armed as armed_disk, powered as powered_disk}
+use Rattle.rc_disk.specs.Calls.{Told, powered as powered_disk}
 use Rattle.rc_disk.specs.Places.{Start}
 use Rattle.rc_log.specs.Journals.{State, Appends, Fails, would_pass_limit, with_cut}
 use Rattle.rc_log.specs.Append.{create_calls, all_done}

@@ -1,5 +1,5 @@
 -- What a disk told before a node began on it is told still after that.
-use Rattle.std.proofs.Common.{◌≡◌, ℕ, ◌+◌, List, Option, option_map, IfSome, Result, Ok, Err, IfOk, IfErr, subst, arith}
+use Rattle.std.proofs.Common.{◌≡◌, ℕ, ◌+◌, Option, option_map, IfSome, Result, Ok, Err, IfOk, IfErr, subst, arith}
 use Rattle.rc_disk.specs.declared.power.Power.{Power}
 use Rattle.rc_disk.specs.Calls.{Told}
 use Rattle.rc_log.specs.Append.{create_calls, all_done}

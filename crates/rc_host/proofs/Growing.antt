@@ -1,5 +1,5 @@
 -- What a disk told before a log on it was opened is told still after it.
-use Rattle.std.proofs.Common.{◌≡◌, ℕ, zero, suc, ◌+◌, ◌-◌, ◌^◌, ◌≤◌, ◌<◌, List, [], ◌∷◌, ◌++◌, Option, Some, None, option_map, IfSome, ◌∙◌, subst, arith, true, append_assoc}
+use Rattle.std.proofs.Common.{◌≡◌, ℕ, zero, suc, ◌-◌, ◌^◌, ◌≤◌, ◌<◌, List, [], ◌∷◌, ◌++◌, Option, Some, None, option_map, IfSome, ◌∙◌, subst, arith, true, append_assoc}
 use Rattle.rc_ports.specs.Causes.{raised}
 use Rattle.rc_disk.specs.declared.power.Power.{Power}
 use Rattle.rc_disk.specs.declared.power.Power.TheVariants.{On, Armed, Off}

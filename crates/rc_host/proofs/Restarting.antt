@@ -20,13 +20,14 @@ use Rattle.rc_devices.specs.Disks.{IsKept, IsDisk, AllWithin, power_of as power_
 use Rattle.rc_devices.proofs.Appends.{some_inj}
 use Rattle.rc_devices.proofs.ReadNumbers.{all_within_more}
 use Rattle.rc_devices.proofs.Rows.{called_shown}
+use Rattle.rc_devices.proofs.Staying.{one_read_more}
 use Rattle.rc_host.specs.AnyNode.{NodeDurable}
 use Rattle.rc_host.specs.Standing.{Standing, started_again}
 use Rattle.rc_host.specs.declared.host.Host.{Host}
 use Rattle.rc_host.specs.declared.host.Host.TheVariants.{Down}
 use Rattle.rc_host.specs.declared.restarts.RestartFault.{RestartFault}
 use Rattle.rc_host.specs.declared.restarts.RestartFault.TheVariants.{NoMemory}
-use Rattle.rc_host.specs.Hosts.{Sight, Run, IsHost, IsDown, IsOpened, HasLog, HasReadsLeft, StopsAt}
+use Rattle.rc_host.specs.Hosts.{Sight, Run, IsHost, IsDown, IsOpened, HasLog, StopsAt}
 use Rattle.rc_host.specs.Restarts.{HasStarted, HasNotStarted, IsStillDown, tried}
 use Rattle.rc_host.proofs.OpenFacts.{open_again, stays_shut}
 
@@ -56,14 +57,14 @@ already_open d is = ap (λ (b : Bool). cond b (Some d) (opened d)) is
 opened_shut : (d : Device) (o : Option Device) → d.is_open ≡ false → opened d ≡ o → opened_once d ≡ o
 opened_shut d o shut is = ap (λ (b : Bool). cond b (Some d) (opened d)) shut ∙ is
 
-tried_disk : (run : Run) (t : Told) (d : Device) (n : ℕ) → IsDisk run.begun run.ended t On d → t.reads.made < 2 ^ 64 - 1 → IsDisk run.begun run.ended (opened_by n t) On (tried n d)
-tried_disk run t d zero is few = is
-tried_disk run t d (suc zero) is few = record {
+tried_disk : (run : Run) (t : Told) (d : Device) (n : ℕ) → IsDisk run.begun run.ended t On d → (opened_by n t).reads.made < 2 ^ 64 - 1 → IsDisk run.begun run.ended (opened_by n t) On (tried n d)
+tried_disk run t d zero is left = is
+tried_disk run t d (suc zero) is left = record {
   calls = called_shown run.begun run.ended.numbers.failed t.numbers.calls t.numbers.failed On d is.calls refl;
   reads = record { counted = is.reads.counted; listed = is.reads.listed; within = is.reads.within };
 }
-tried_disk run t d (suc (suc n)) is few =
-    let rises : raised t.reads.made ≡ t.reads.made + 1 = raises t.reads.made few in
+tried_disk run t d (suc (suc n)) is left =
+    let rises : raised t.reads.made ≡ t.reads.made + 1 = one_read_more t.reads.made left in
     let next = called_shown run.begun run.ended.numbers.failed t.numbers.calls t.numbers.failed On d is.calls refl in
     record {
       calls = record { counted = next.counted; listed = next.listed; within = next.within; power_is = next.power_is };
@@ -73,9 +74,6 @@ tried_disk run t d (suc (suc n)) is few =
         within = subst (λ (m : ℕ). AllWithin m t.reads.failed) (sym rises) (all_within_more t.reads.made (t.reads.made + 1) t.reads.failed is.reads.within (omega arith));
       };
     }
-  where
-    raises : (made : ℕ) → made < 2 ^ 64 - 1 → raised made ≡ made + 1
-    raises made less = grind arith
 
 tried_shut : (d : Device) (n : ℕ) → d.is_open ≡ false → (tried n d).is_open ≡ false
 tried_shut d zero shut = shut
@@ -101,10 +99,7 @@ abbrev showing : Option Told → State
 showing told = record { records = None; in_hand = None; size = 0; limit = None; count = 0; failed = false; content = None; told = told; power = None; faults = 0; cuts = 0 }
 
 module _ {D : Type 0} (told_by : D → Option Told) (content_of : D → Option (List ℕ)) (power_of : D → Power) (gives : List (List ℕ) → NodeDurable → Type 0) (run : Run) (disk : D) (x : Standing) (d : Device)
-    (is : IsDown told_by content_of power_of gives run disk x d) (left : HasReadsLeft run d) (law : IfSome (told_by disk) (λ t. content_of disk ≡ Some (read_bytes t))) where
-  few : is.told.reads.made < 2 ^ 64 - 1
-  few = subst (λ (n : ℕ). n < 2 ^ 64 - 1) (sym is.device.reads.counted) left
-
+    (is : IsDown told_by content_of power_of gives run disk x d) (law : IfSome (told_by disk) (λ t. content_of disk ≡ Some (read_bytes t))) where
   bytes_are : read_bytes is.told ≡ is.bytes
   bytes_are = some_inj (read_bytes is.told) is.bytes (sym (subst (λ (o : Option Told). IfSome o (λ t. content_of disk ≡ Some (read_bytes t))) is.tells law) ∙ is.content)
 
@@ -122,7 +117,6 @@ module _ {D : Type 0} (told_by : D → Option Told) (content_of : D → Option (
   stops = record {
     told = is.told;
     tells = is.tells;
-    few = few;
     disk = subst (λ (e : Device). IsDisk run.begun run.ended (powered_disk is.told) On e) (sym same_device) on_again;
     left = ap records bytes_are ∙ is.has;
     offset = is.offset;
@@ -155,12 +149,14 @@ module _ {D : Type 0} (told_by : D → Option Told) (content_of : D → Option (
 
     -- there was no memory for its log
     pub lacks_down : {N J : Type 0} (s : Sight N J D) (other : D) (fault : OpenFault) (len : ℕ) (power : Power) (faults faults_now cuts cuts_now : ℕ) → s.told ≡ told_by → s.content ≡ content_of → s.power ≡ power_of → fault ≡ NoMemoryToOpen → power ≡ On
-        → IsNoOpen len fault on (told_by other) power (power_of other) faults faults_now cuts cuts_now → content_of other ≡ content → IsStillDown s gives run (Down other) x d
-    lacks_down s other fault len power faults faults_now cuts cuts_now told_is content_is power_is_of fault_is power_is refused same =
+        → IsNoOpen len fault on (told_by other) power (power_of other) faults faults_now cuts cuts_now → content_of other ≡ content → IfSome (told_by other) (λ t. IsKept t run.ended) → IsStillDown s gives run (Down other) x d
+    lacks_down s other fault len power faults faults_now cuts cuts_now told_is content_is power_is_of fault_is power_is refused same kept =
         let lacks : LacksMemory len on (told_by other) power (power_of other) faults faults_now cuts cuts_now = subst (λ (f : OpenFault). IsNoOpen len f on (told_by other) power (power_of other) faults faults_now cuts cuts_now) fault_is refused in
         let n = lacks.calls in
         let told = powered_disk is.told in
         let on_told : on ≡ Some told = on_is ∙ ap (option_map powered_disk) is.tells in
+        let tells : told_by other ≡ Some (opened_by n told) = lacks.stops.whole_state ∙ ap (option_map (opened_by n)) on_told in
+        let still : IsKept (opened_by n told) run.ended = subst (λ (o : Option Told). IfSome o (λ t. IsKept t run.ended)) tells kept in
         record {
           device = tried n d;
           reached = inl (n, refl);
@@ -176,9 +172,9 @@ module _ {D : Type 0} (told_by : D → Option Told) (content_of : D → Option (
                 has = is.has;
                 holds = is.holds;
                 told = opened_by n told;
-                tells = lacks.stops.whole_state ∙ ap (option_map (opened_by n)) on_told;
+                tells = tells;
                 on = lacks.stops.power_is ∙ ap (power_past (syncs_in n)) power_is ∙ still_on n;
-                device = tried_disk run told d n on_again few;
+                device = tried_disk run told d n on_again still.left;
                 offset = is.offset ∙ sym (tried_offset d n);
                 shut = tried_shut d n is.shut;
               })));

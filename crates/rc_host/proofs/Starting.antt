@@ -1,5 +1,5 @@
 -- The log of a node that begins, as it is created or opened.
-use Rattle.std.proofs.Common.{◌≡◌, ℕ, suc, ◌-◌, ◌^◌, ◌<◌, List, [], ◌∷◌, true, Option, Some, option_map, IfSome, Result, Ok, Err, IfOk, IfErr, length, refl, sym, ap, ◌∙◌, subst}
+use Rattle.std.proofs.Common.{◌≡◌, ℕ, suc, List, [], ◌∷◌, true, Option, Some, option_map, IfSome, Result, Ok, Err, IfOk, IfErr, length, refl, sym, ap, ◌∙◌, subst}
 use Rattle.rc_ids.specs.Cluster.{Layout}
 use Rattle.rc_ids.specs.Tables.{maybe}
 use Rattle.rc_ids.specs.declared.names.NodeId.{NodeId}
@@ -32,9 +32,6 @@ empty_taken c (Coord e) d = refl
 empty_taken c (ShardServer e sh) d = refl
 
 module _ {D : Type 0} (told_by : D → Option Told) (content_of : D → Option (List ℕ)) (power_of : D → Power) (run : Run) (disk : D) (content : List ℕ) (d : Device) (is : IsAtStart told_by content_of power_of run disk content d) where
-  few : is.told.reads.made < 2 ^ 64 - 1
-  few = subst (λ (n : ℕ). n < 2 ^ 64 - 1) (sym is.device.reads.counted) is.left
-
   -- CREATED
   pub creates_log : (log : State) → Begins log [] most_log_bytes (option_map (λ (c : List ℕ). 0 ∷ []) (content_of disk)) (option_map (all_done create_calls) (told_by disk)) (power_past 2 (power_of disk)) → IfSome log.told (λ t. IsKept t run.ended)
       → IsStored run log [] (calls_made 2 d) × (takes_log run.cluster run.node (calls_made 2 d) [] ≡ opens_log run.cluster run.node d [])

@@ -1,12 +1,12 @@
 -- A node that is up handles something: its host after that.
-use Rattle.std.proofs.Common.{◌≡◌, ℕ, ◌-◌, ◌<◌, ◌^◌, List, [], ◌∷◌, ◌++◌, Bool, true, false, Option, Some, None, option_map, IfSome, Result, Ok, Err, IfOk, IfErr, length, refl, sym, ap, ◌∙◌, subst, ◌+◌, add-zero}
+use Rattle.std.proofs.Common.{◌≡◌, ℕ, List, [], ◌∷◌, ◌++◌, Bool, true, false, Option, Some, None, IfSome, Result, Ok, Err, IfOk, IfErr, length, refl, sym, ap, ◌∙◌, subst, ◌+◌, add-zero}
 use Rattle.std.specs.Prelude.{nat_lt}
 use Rattle.rc_ids.specs.Cluster.{Layout}
 use Rattle.rc_ids.specs.Tables.{maybe}
 use Rattle.rc_ids.specs.declared.names.NodeId.{NodeId}
 use Rattle.rc_ids.specs.declared.names.NodeId.TheVariants.{Coord, Shard as ShardServer}
-use Rattle.rc_disk.specs.Calls.{Told, Reads, read_bytes}
-use Rattle.rc_log.specs.Append.{keeps, with_or_without, append_calls, stopped_at}
+use Rattle.rc_disk.specs.Calls.{read_bytes}
+use Rattle.rc_log.specs.Append.{keeps, with_or_without}
 use Rattle.rc_log.specs.Journals.{State}
 use Rattle.rc_log.specs.Records.{records}
 use Rattle.rc_msg.specs.Outboxes.{Outbox}
@@ -23,7 +23,7 @@ use Rattle.rc_protocol.specs.Nodes.{applied}
 use Rattle.rc_runs.specs.Devices.{Device, FailsAt, Full, opened, powered, read_once, called}
 use Rattle.rc_runs.specs.World.{Stops as StopsInside}
 use Rattle.rc_devices.specs.Laws.{IsTold}
-use Rattle.rc_devices.proofs.Appends.{appends_are_devices, stopped_reads}
+use Rattle.rc_devices.proofs.Appends.{appends_are_devices}
 use Rattle.rc_host.specs.AnyNode.{AnyNode, AnyAct, NodeDurable, NodeVolatile, OfShard, OfCoord, OfShardNow, OfCoordNow, node_act, act_of, new_volatile}
 use Rattle.rc_host.specs.Standing.{Standing, after_stop, course_on, device_after}
 use Rattle.rc_host.specs.declared.host.Host.{Host}
@@ -32,7 +32,7 @@ use Rattle.rc_host.specs.declared.host.Course.{Course}
 use Rattle.rc_host.specs.declared.host.Course.TheVariants.{Goes, Stops}
 use Rattle.rc_host.specs.declared.host.HostFault.{HostFault}
 use Rattle.rc_host.specs.declared.host.HostFault.TheVariants.{NoMemory, BallotsSpent, DiskFailed, Damaged, Lost}
-use Rattle.rc_host.specs.Hosts.{is_up, CountsOn, KeptOn, Sight, Run, IsHost, IsUp, HasLog, HasReadsLeft, AreLogged, IsLogged, Went, Stayed, StopsAt, OpensAgain, StaysShut, StopsOn}
+use Rattle.rc_host.specs.Hosts.{is_up, CountsOn, KeptOn, Sight, Run, IsHost, IsUp, HasLog, AreLogged, IsLogged, Went, Stayed, StopsAt, OpensAgain, StaysShut, StopsOn}
 use Rattle.rc_host.proofs.Acting.{Gone, no_record, one_record, comes_some}
 use Rattle.rc_host.proofs.Stopping.{stops_failed, stops_full, held_after, counted_after}
 
@@ -178,10 +178,10 @@ module _ {N J D : Type 0} (s : Sight N J D) (gives : List (List ℕ) → NodeDur
     pub leaves : device_after d act ≡ opened (powered device)
 
   -- the disk failed at the record
-  failed_at : (log : State) (o : Option Record) → act.logs ≡ o → IfSome o (IsLogged gives x act) → (may_leave : List ℕ → Type 0) → AppendFailsAt may_leave old log o → HasReadsLeft run d
+  failed_at : (log : State) (o : Option Record) → act.logs ≡ o → IfSome o (IsLogged gives x act) → (may_leave : List ℕ → Type 0) → AppendFailsAt may_leave old log o
       → IsTold log run.ended → Stopped log
-  failed_at log None none logged may_leave fails left told = absurd fails
-  failed_at log (Some r) some logged may_leave breaks left told =
+  failed_at log None none logged may_leave fails told = absurd fails
+  failed_at log (Some r) some logged may_leave breaks told =
       let fails = breaks.fails in
       let call = fails.calls.call in
       let failed = (appends_are_devices run.begun run.ended old d (record_bytes r) is.log.device).failed log fails breaks.fits told in
@@ -193,16 +193,16 @@ module _ {N J D : Type 0} (s : Sight N J D) (gives : List (List ℕ) → NodeDur
         count = fails.same_count ∙ is.log.count;
         kept = keeps call fails.calls.cause;
         device = failed.after;
-        stops = stops_failed gives run x d act old log is.blobs is.log left r fails breaks.fits told failed;
+        stops = stops_failed gives run x d act old log is.blobs is.log r fails breaks.fits told failed;
         comes = came.0;
         leaves = came.1;
       }
 
   -- the log was full with the record
-  full_at : (log : State) (o : Option Record) → act.logs ≡ o → IfSome o (IsLogged gives x act) → IsFullAt old o → log ≡ old → HasReadsLeft run d → IfSome log.told (λ t. IfSome log.records (λ rs. records (read_bytes t) ≡ Ok rs))
+  full_at : (log : State) (o : Option Record) → act.logs ≡ o → IfSome o (IsLogged gives x act) → IsFullAt old o → log ≡ old → IfSome log.told (λ t. IfSome log.records (λ rs. records (read_bytes t) ≡ Ok rs))
       → Stopped log
-  full_at log None none logged full same left whole = absurd full
-  full_at log (Some r) some logged full same left whole =
+  full_at log None none logged full same whole = absurd full
+  full_at log (Some r) some logged full same whole =
       let came = comes_some d act r Full d some ((appends_are_devices run.begun run.ended old d (record_bytes r) is.log.device).full full) in
       record {
         entry = r;
@@ -211,7 +211,7 @@ module _ {N J D : Type 0} (s : Sight N J D) (gives : List (List ℕ) → NodeDur
         count = ap (λ (z : State). z.count) same ∙ is.log.count;
         kept = false;
         device = d;
-        stops = stops_full gives run x d act old log is.blobs is.log left same whole;
+        stops = stops_full gives run x d act old log is.blobs is.log same whole;
         comes = came.0;
         leaves = came.1;
       }
@@ -227,19 +227,23 @@ module _ {N J D : Type 0} (s : Sight N J D) (gives : List (List ℕ) → NodeDur
   stopped_err log host r before after z same shut = if_err r _ _ (λ fault stays. stayed_shut host fault z.device before after (record { kept = z.kept; comes = z.comes }) z.leaves same stays) shut
 
   pub failed_stop : (new : N) (journal : J) (fault : NodeFault) (may_leave : J → List ℕ → Type 0) (before after : Outbox) → journal ≡ (s.seen new).journal
-      → fault ≡ Failed → HasRefused s.state may_leave fault (s.seen node) (s.seen new) before after (act_of (s.seen node) cause) → AreLogged gives x act → HasReadsLeft run d
+      → fault ≡ Failed → HasRefused s.state may_leave fault (s.seen node) (s.seen new) before after (act_of (s.seen node) cause) → AreLogged gives x act
       → IsTold (s.state journal) run.ended → Stopped (s.state journal)
-  failed_stop new journal fault may_leave before after journal_is fault_is refused logged left told =
+  failed_stop new journal fault may_leave before after journal_is fault_is refused logged told =
       let done = subst (λ (a : AnyAct). HasRefused s.state may_leave Failed (s.seen node) (s.seen new) before after a) act_is (subst (λ (f : NodeFault). HasRefused s.state may_leave f (s.seen node) (s.seen new) before after (act_of (s.seen node) cause)) fault_is refused) in
-      failed_at (s.state journal) act.logs refl logged (may_leave (s.seen new).journal) (subst (λ (z : State). AppendFailsAt (may_leave (s.seen new).journal) old z act.logs) (ap s.state (sym journal_is)) done.journal) left told
+      failed_at (s.state journal) act.logs refl logged (may_leave (s.seen new).journal) (subst (λ (z : State). AppendFailsAt (may_leave (s.seen new).journal) old z act.logs) (ap s.state (sym journal_is)) done.journal) told
 
   pub full_stop : (new : N) (journal : J) (fault : NodeFault) (may_leave : J → List ℕ → Type 0) (before after : Outbox) → journal ≡ (s.seen new).journal
-      → fault ≡ LogFull → HasRefused s.state may_leave fault (s.seen node) (s.seen new) before after (act_of (s.seen node) cause) → AreLogged gives x act → HasReadsLeft run d
+      → fault ≡ LogFull → HasRefused s.state may_leave fault (s.seen node) (s.seen new) before after (act_of (s.seen node) cause) → AreLogged gives x act
       → ((s.state journal).failed ≡ false → IfSome (s.state journal).told (λ t. IfSome (s.state journal).records (λ rs. records (read_bytes t) ≡ Ok rs))) → Stopped (s.state journal)
-  full_stop new journal fault may_leave before after journal_is fault_is refused logged left whole =
+  full_stop new journal fault may_leave before after journal_is fault_is refused logged whole =
       let done = subst (λ (a : AnyAct). HasRefused s.state may_leave LogFull (s.seen node) (s.seen new) before after a) act_is (subst (λ (f : NodeFault). HasRefused s.state may_leave f (s.seen node) (s.seen new) before after (act_of (s.seen node) cause)) fault_is refused) in
       let same : s.state journal ≡ old = ap s.state journal_is ∙ done.journal.same in
-      full_at (s.state journal) act.logs refl logged done.journal.reason same left (whole (ap (λ (z : State). z.failed) same ∙ is.log.sound))
+      full_at (s.state journal) act.logs refl logged done.journal.reason same (whole (ap (λ (z : State). z.failed) same ∙ is.log.sound))
+
+-- the records are counted from those of the host that it was
+pub counts_from : {N J D : Type 0} (s : Sight N J D) (r : Result Course HostFault) (was host new : Host N J D) (act : AnyAct) → host ≡ was → IfOk r (λ course. CountsOn s host new act) → IfOk r (λ course. CountsOn s was new act)
+counts_from s r was host new act same counted = subst (λ h. IfOk r (λ course. CountsOn s h new act)) same counted
 
 -- a host is seen as what it is
 pub same_host : {N J D : Type 0} (s : Sight N J D) (gives : List (List ℕ) → NodeDurable → Type 0) (run : Run) (host other : Host N J D) (x : Standing) (d : Device) → host ≡ other → IsHost s gives run host x d → IsHost s gives run other x d

@@ -26,7 +26,7 @@ use Rattle.rc_host.specs.Standing.{Standing, coord_standing, shard_standing}
 use Rattle.rc_host.specs.declared.host.Host.{Host}
 use Rattle.rc_host.specs.declared.begins.BeginFault.{BeginFault}
 use Rattle.rc_host.specs.declared.begins.BeginFault.TheVariants.{NoMemory, DiskFailed, Refused, Limit}
-use Rattle.rc_host.specs.Hosts.{Sight, Run, IsHost, HasLog, HasReadsLeft}
+use Rattle.rc_host.specs.Hosts.{Sight, Run, IsHost, HasLog}
 
 -- the head of the newest format, as bytes
 abbrev pub newest_bytes : NodeId → Layout → List ℕ
@@ -93,7 +93,6 @@ pub record IsAtStart {D : Type 0} (told_by : D → Option Told) (content_of : D 
   pub on : power_of disk ≡ On
   pub device : IsDisk run.begun run.ended told On d
   pub fresh : d.offset ≡ 0
-  pub left : HasReadsLeft run d
 
 -- a log that may owe a head
 abbrev pub OwedFault : BeginFault → Bool → State → State → List ℕ → Type 0

@@ -1,5 +1,5 @@
 -- Hosts of nodes of a run, on disks that tell their calls.
-use Rattle.std.specs.Prelude.{◌≡◌, ◌<◌, ◌+◌, ◌-◌, ◌^◌, ◌++◌, ℕ, nat_lt, Bool, true, false, List, [], ◌∷◌, length, Option, None, Some, Ok, IfSome}
+use Rattle.std.specs.Prelude.{◌≡◌, ◌+◌, ◌++◌, ℕ, nat_lt, Bool, true, false, List, [], ◌∷◌, length, Option, None, Some, Ok, IfSome}
 use Rattle.rc_ids.specs.Cluster.{Layout}
 use Rattle.rc_ids.specs.Tables.{maybe}
 use Rattle.rc_ids.specs.declared.names.NodeId.{NodeId}
@@ -16,7 +16,6 @@ use Rattle.rc_record.specs.Spelling.{record_bytes}
 use Rattle.rc_runs.specs.World.{Course as CourseOfRun, Goes as GoesOn, Stops as StopsInside}
 use Rattle.rc_runs.specs.Devices.{Device, opened, powered, read_once, called}
 use Rattle.rc_runs.specs.Stored.{records_of}
-use Rattle.rc_runs.specs.Farms.{reads_at}
 use Rattle.rc_devices.specs.Disks.{IsKept, IsDisk, IsLog}
 use Rattle.rc_host.specs.AnyNode.{AnyNode, AnyAct, NodeDurable, new_volatile}
 use Rattle.rc_host.specs.Standing.{Standing, after_act, after_stop, course_on, device_after}
@@ -120,10 +119,6 @@ IsToldBy s (Opened journal blobs) ended = IfSome (s.state journal).told (λ t. I
 IsToldBy s (Down disk) ended = IfSome (s.told disk) (λ t. IsKept t ended)
 IsToldBy s Lent ended = ⊥
 
--- the disk's count of reads is not full
-abbrev pub HasReadsLeft : Run → Device → Type 0
-HasReadsLeft run d = reads_at run.begun + d.reads < 2 ^ 64 - 1
-
 -- HOW AN EVENT WENT
 abbrev pub course_in : Course → CourseOfRun
 course_in Goes = GoesOn
@@ -191,7 +186,6 @@ AreLogged gives x act = IfSome act.logs (IsLogged gives x act)
 pub record StopsAt (run : Run) (log : State) (blobs : List (List ℕ)) (d : Device) : Type 0 where
   pub told : Told
   pub tells : log.told ≡ Some told
-  pub few : told.reads.made < 2 ^ 64 - 1
   pub disk : IsDisk run.begun run.ended (powered_disk told) On (powered d)
   pub left : records (read_bytes told) ≡ Ok blobs
   pub offset : size_of blobs ≡ d.offset

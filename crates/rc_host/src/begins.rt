@@ -1,5 +1,5 @@
 // A node begins a run, on what its disk has.
-ghost use Rattle.std.specs.Prelude.{◌≡◌, ◌<◌, ◌-◌, ◌^◌, ℕ, List, [], ◌∷◌, false, true, Ok, IfOk, IfErr, IfSome, OnOk};
+ghost use Rattle.std.specs.Prelude.{◌≡◌, ℕ, List, [], ◌∷◌, false, true, Ok, IfOk, IfErr, IfSome, OnOk};
 ghost use Rattle.std.specs.Option.{option_map};
 ghost use Rattle.rc_disk.specs.declared.power.Power.TheVariants.{On};
 ghost use Rattle.rc_disk.specs.Calls.{Told, powered as powered_disk};

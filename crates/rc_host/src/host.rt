@@ -10,7 +10,7 @@ ghost use Rattle.rc_host.specs.Causes.{cause_of};
 ghost use Rattle.rc_host.specs.Standing.{Standing};
 ghost use Rattle.rc_host.specs.declared.host.Host.TheVariants.{Up};
 ghost use Rattle.rc_host.specs.declared.host.Course.TheVariants.{Goes};
-ghost use Rattle.rc_host.specs.Hosts.{IsThere, CountsOn, Run, sight, is_up, IfUp, IsHost, IsUp, IsToldBy, HasReadsLeft, Went, Stayed, StopsAt, OpensAgain, StaysShut};
+ghost use Rattle.rc_host.specs.Hosts.{IsThere, CountsOn, Run, sight, is_up, IfUp, IsHost, IsUp, IsToldBy, Went, Stayed, StopsAt, OpensAgain, StaysShut};
 
 use crate::{Cause, Node};
 use rc_disk::Disk;
@@ -103,10 +103,10 @@ fn turn<D: Disk, N: Node<Log<D>>>(
     out: &mut Outbox,
 ) -> (Host<N, Log<D>, D>, Result<Course, HostFault>)
     requires { (N.seen node).stopped ≡ false }
-    ensures ok { (run : Run) (x : Standing) (d : Device) → IsUp (sight N.seen ⟦<Log<D> as Journal>⟧.state D.told D.content D.power) (N.back run.node run.cluster) run node x d → HasReadsLeft run d
+    ensures ok { (run : Run) (x : Standing) (d : Device) → IsUp (sight N.seen ⟦<Log<D> as Journal>⟧.state D.told D.content D.power) (N.back run.node run.cluster) run node x d
         → let act = node_act run.cluster run.node x.durable x.volatile (cause_of cause.now) in IfSome act.logs HasRecord → IsToldBy (sight N.seen ⟦<Log<D> as Journal>⟧.state D.told D.content D.power) result.0 run.ended
         → IfOk result.1 (λ course. Went (sight N.seen ⟦<Log<D> as Journal>⟧.state D.told D.content D.power) (N.back run.node run.cluster) run course result.0 out.old out.new x d act) }
-    ensures err { (run : Run) (x : Standing) (d : Device) → IsUp (sight N.seen ⟦<Log<D> as Journal>⟧.state D.told D.content D.power) (N.back run.node run.cluster) run node x d → HasReadsLeft run d
+    ensures err { (run : Run) (x : Standing) (d : Device) → IsUp (sight N.seen ⟦<Log<D> as Journal>⟧.state D.told D.content D.power) (N.back run.node run.cluster) run node x d
         → let act = node_act run.cluster run.node x.durable x.volatile (cause_of cause.now) in IfSome act.logs HasRecord → IsToldBy (sight N.seen ⟦<Log<D> as Journal>⟧.state D.told D.content D.power) result.0 run.ended
         → IfErr result.1 (λ fault. Stayed (sight N.seen ⟦<Log<D> as Journal>⟧.state D.told D.content D.power) (N.back run.node run.cluster) run fault result.0 out.old out.new x d act) }
     ensures up { IfUp result.0 (λ after. (N.seen after).stopped ≡ false) }
@@ -138,10 +138,10 @@ pub fn act<D: Disk, N: Node<Log<D>>>(
     requires { IfUp host.old (λ node. (N.seen node).stopped ≡ false) }
     ensures up { IfUp host.new (λ node. (N.seen node).stopped ≡ false) }
     ensures there { IsThere host.old → IsThere host.new }
-    ensures ok { (run : Run) (x : Standing) (d : Device) → is_up host.old ≡ true → IsHost (sight N.seen ⟦<Log<D> as Journal>⟧.state D.told D.content D.power) (N.back run.node run.cluster) run host.old x d → HasReadsLeft run d
+    ensures ok { (run : Run) (x : Standing) (d : Device) → is_up host.old ≡ true → IsHost (sight N.seen ⟦<Log<D> as Journal>⟧.state D.told D.content D.power) (N.back run.node run.cluster) run host.old x d
         → let act = node_act run.cluster run.node x.durable x.volatile (cause_of cause.now) in IfSome act.logs HasRecord → IsToldBy (sight N.seen ⟦<Log<D> as Journal>⟧.state D.told D.content D.power) host.new run.ended
         → IfOk result (λ course. Went (sight N.seen ⟦<Log<D> as Journal>⟧.state D.told D.content D.power) (N.back run.node run.cluster) run course host.new out.old out.new x d act) }
-    ensures err { (run : Run) (x : Standing) (d : Device) → is_up host.old ≡ true → IsHost (sight N.seen ⟦<Log<D> as Journal>⟧.state D.told D.content D.power) (N.back run.node run.cluster) run host.old x d → HasReadsLeft run d
+    ensures err { (run : Run) (x : Standing) (d : Device) → is_up host.old ≡ true → IsHost (sight N.seen ⟦<Log<D> as Journal>⟧.state D.told D.content D.power) (N.back run.node run.cluster) run host.old x d
         → let act = node_act run.cluster run.node x.durable x.volatile (cause_of cause.now) in IfSome act.logs HasRecord → IsToldBy (sight N.seen ⟦<Log<D> as Journal>⟧.state D.told D.content D.power) host.new run.ended
         → IfErr result (λ fault. Stayed (sight N.seen ⟦<Log<D> as Journal>⟧.state D.told D.content D.power) (N.back run.node run.cluster) run fault host.new out.old out.new x d act) }
     ensures grew { (ended : Told) → IsToldBy (sight N.seen ⟦<Log<D> as Journal>⟧.state D.told D.content D.power) host.new ended → IsToldBy (sight N.seen ⟦<Log<D> as Journal>⟧.state D.told D.content D.power) host.old ended }

@@ -3,7 +3,7 @@ ghost use Rattle.std.specs.Prelude.{◌≡◌, ℕ, false, true, IfOk, IfErr, On
 ghost use Rattle.rc_disk.specs.Calls.{Told};
 ghost use Rattle.rc_runs.specs.Devices.{Device};
 ghost use Rattle.rc_host.specs.Standing.{Standing};
-ghost use Rattle.rc_host.specs.Hosts.{IsThere, Run, sight, is_up, IfUp, IsHost, IsToldBy, HasReadsLeft};
+ghost use Rattle.rc_host.specs.Hosts.{IsThere, Run, sight, is_up, IfUp, IsHost, IsToldBy};
 ghost use Rattle.rc_host.specs.Restarts.{HasAsked, HasRejoined, HasNotRejoined};
 
 use crate::{Cause, Host, Node, RestartFault, crash, restart};
@@ -51,10 +51,10 @@ pub fn rejoin<D: Disk, N: Node<Log<D>>>(
     requires kind { N.is_kind node cluster.now }
     requires up { IfUp host.old (λ node. (N.seen node).stopped ≡ false) }
     ensures ok { (run : Run) (x : Standing) (d : Device) → run.node ≡ node → run.cluster ≡ cluster.now → is_up host.old ≡ false → IsHost (sight N.seen ⟦<Log<D> as Journal>⟧.state D.told D.content D.power) (N.back run.node run.cluster) run host.old x d
-        → HasReadsLeft run d → IsToldBy (sight N.seen ⟦<Log<D> as Journal>⟧.state D.told D.content D.power) host.new run.ended
+        → IsToldBy (sight N.seen ⟦<Log<D> as Journal>⟧.state D.told D.content D.power) host.new run.ended
         → IfOk result (λ _. HasRejoined (sight N.seen ⟦<Log<D> as Journal>⟧.state D.told D.content D.power) (N.back run.node run.cluster) run host.new out.old out.new x d) }
     ensures err { (run : Run) (x : Standing) (d : Device) → run.node ≡ node → run.cluster ≡ cluster.now → is_up host.old ≡ false → IsHost (sight N.seen ⟦<Log<D> as Journal>⟧.state D.told D.content D.power) (N.back run.node run.cluster) run host.old x d
-        → HasReadsLeft run d → IsToldBy (sight N.seen ⟦<Log<D> as Journal>⟧.state D.told D.content D.power) host.new run.ended
+        → IsToldBy (sight N.seen ⟦<Log<D> as Journal>⟧.state D.told D.content D.power) host.new run.ended
         → IfErr result (λ fault. HasNotRejoined (sight N.seen ⟦<Log<D> as Journal>⟧.state D.told D.content D.power) (N.back run.node run.cluster) run fault host.new x d) }
     ensures out { OnErr result (out.new ≡ out.old) }
     ensures up { IfUp host.new (λ node. (N.seen node).stopped ≡ false) }

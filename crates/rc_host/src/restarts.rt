@@ -5,7 +5,7 @@ ghost use Rattle.rc_runs.specs.Devices.{Device};
 ghost use Rattle.rc_devices.specs.Disks.{IsKept};
 ghost use Rattle.rc_host.specs.Standing.{Standing, started_again};
 ghost use Rattle.rc_host.specs.declared.restarts.RestartFault.TheVariants.{NoMemory as OutOfMemory};
-ghost use Rattle.rc_host.specs.Hosts.{IsThere, Run, sight, is_up, IfUp, IsHost, IsOpened, IsDown, IsToldBy, HasReadsLeft};
+ghost use Rattle.rc_host.specs.Hosts.{IsThere, Run, sight, is_up, IfUp, IsHost, IsOpened, IsDown, IsToldBy};
 ghost use Rattle.rc_host.specs.Restarts.{HasStarted, HasNotStarted, restart_fault};
 
 use crate::{Host, MOST_LOG_BYTES, Node};
@@ -100,10 +100,10 @@ fn open_and_start<D: Disk, N: Node<Log<D>>>(
     disk: D,
 ) -> (Host<N, Log<D>, D>, Result<(), RestartFault>)
     requires { N.is_kind node.now cluster.now }
-    ensures ok { (run : Run) (x : Standing) (d : Device) → run.node ≡ node.now → run.cluster ≡ cluster.now → IsDown D.told D.content D.power (N.back run.node run.cluster) run disk x d → HasReadsLeft run d
+    ensures ok { (run : Run) (x : Standing) (d : Device) → run.node ≡ node.now → run.cluster ≡ cluster.now → IsDown D.told D.content D.power (N.back run.node run.cluster) run disk x d
         → IsToldBy (sight N.seen ⟦<Log<D> as Journal>⟧.state D.told D.content D.power) result.0 run.ended
         → IfOk result.1 (λ _. HasStarted (sight N.seen ⟦<Log<D> as Journal>⟧.state D.told D.content D.power) (N.back run.node run.cluster) run result.0 x d) }
-    ensures err { (run : Run) (x : Standing) (d : Device) → run.node ≡ node.now → run.cluster ≡ cluster.now → IsDown D.told D.content D.power (N.back run.node run.cluster) run disk x d → HasReadsLeft run d
+    ensures err { (run : Run) (x : Standing) (d : Device) → run.node ≡ node.now → run.cluster ≡ cluster.now → IsDown D.told D.content D.power (N.back run.node run.cluster) run disk x d
         → IsToldBy (sight N.seen ⟦<Log<D> as Journal>⟧.state D.told D.content D.power) result.0 run.ended
         → IfErr result.1 (λ fault. HasNotStarted (sight N.seen ⟦<Log<D> as Journal>⟧.state D.told D.content D.power) (N.back run.node run.cluster) run fault result.0 x d) }
     ensures up { IfUp result.0 (λ node. (N.seen node).stopped ≡ false) }
@@ -157,10 +157,10 @@ pub fn restart<D: Disk, N: Node<Log<D>>>(
 ) -> Result<(), RestartFault>
     requires { N.is_kind node cluster.now }
     ensures ok { (run : Run) (x : Standing) (d : Device) → run.node ≡ node → run.cluster ≡ cluster.now → is_up host.old ≡ false → IsHost (sight N.seen ⟦<Log<D> as Journal>⟧.state D.told D.content D.power) (N.back run.node run.cluster) run host.old x d
-        → HasReadsLeft run d → IsToldBy (sight N.seen ⟦<Log<D> as Journal>⟧.state D.told D.content D.power) host.new run.ended
+        → IsToldBy (sight N.seen ⟦<Log<D> as Journal>⟧.state D.told D.content D.power) host.new run.ended
         → IfOk result (λ _. HasStarted (sight N.seen ⟦<Log<D> as Journal>⟧.state D.told D.content D.power) (N.back run.node run.cluster) run host.new x d) }
     ensures err { (run : Run) (x : Standing) (d : Device) → run.node ≡ node → run.cluster ≡ cluster.now → is_up host.old ≡ false → IsHost (sight N.seen ⟦<Log<D> as Journal>⟧.state D.told D.content D.power) (N.back run.node run.cluster) run host.old x d
-        → HasReadsLeft run d → IsToldBy (sight N.seen ⟦<Log<D> as Journal>⟧.state D.told D.content D.power) host.new run.ended
+        → IsToldBy (sight N.seen ⟦<Log<D> as Journal>⟧.state D.told D.content D.power) host.new run.ended
         → IfErr result (λ fault. HasNotStarted (sight N.seen ⟦<Log<D> as Journal>⟧.state D.told D.content D.power) (N.back run.node run.cluster) run fault host.new x d) }
     ensures idle { is_up host.old ≡ true → (host.new ≡ host.old) × (result ≡ Ok tt) }
     ensures up { IfUp host.old (λ node. (N.seen node).stopped ≡ false) → IfUp host.new (λ node. (N.seen node).stopped ≡ false) }
