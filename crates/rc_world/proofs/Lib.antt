@@ -33,6 +33,5 @@ pub mod ShardStops
 pub mod Weighing
 pub mod Powered
 pub mod Causing
-pub mod ReadsLeft
 pub mod PendingFacts
 pub mod RowFacts

@@ -15,14 +15,14 @@ ghost use Rattle.rc_runs.specs.World.{deed, coord_does};
 ghost use Rattle.rc_host.specs.AnyNode.{OfCoord, OfCoordNow, coord_back, coord_seen, node_act};
 ghost use Rattle.rc_host.specs.Causes.{cause_of};
 ghost use Rattle.rc_host.specs.Standing.{coord_standing};
-ghost use Rattle.rc_host.specs.Hosts.{HasReadsLeft, IfUp, IsHost, IsThere, IsToldBy, Run, count_in, is_up, sight};
+ghost use Rattle.rc_host.specs.Hosts.{IfUp, IsHost, IsThere, IsToldBy, Run, count_in, is_up, sight};
 ghost use Rattle.rc_host.specs.declared.host.Course.TheVariants.{Stops};
 ghost use Rattle.rc_grammar.specs.Acts.{HasNodeCause};
 ghost use Rattle.rc_grammar.specs.Worlds.{HasWorld};
 ghost use Rattle.rc_begin.specs.declared.fault.WorldFault.TheVariants.{NoMemory as OutOfMemory};
 ghost use Rattle.rc_begin.specs.Places.{coord_name, AreAt, AllAt};
 ghost use Rattle.rc_begin.specs.Wells.{is_well};
-ghost use Rattle.rc_begin.specs.Hosts.{Runs, IsCoord, CoordsAreTold, HaveReadsLeft};
+ghost use Rattle.rc_begin.specs.Hosts.{Runs, IsCoord, CoordsAreTold};
 ghost use Rattle.rc_world.specs.Steps.{IsDone};
 ghost use Rattle.rc_world.specs.Turns.{TurnRefused};
 ghost use Rattle.rc_world.specs.Votes.{votes_on, vote_if_up, vote_if_opened, vote_behind};
@@ -104,11 +104,11 @@ fn host_acts<D: Disk>(
     ensures up { IfUp host.new (λ n. n.stopped ≡ false) }
     ensures there { IsThere host.old → IsThere host.new }
     ensures ok { (run : Run) (dc : ℕ) (x : CoordNode) (d : Device) → run.node ≡ node.now → run.node ≡ Coordinator dc → x.up ≡ true → is_up host.old ≡ true
-        → IsHost (sight coord_seen ⟦<Log<D> as Journal>⟧.state D.told D.content D.power) (coord_back run.node run.cluster) run host.old (coord_standing x) d → HasReadsLeft run d
+        → IsHost (sight coord_seen ⟦<Log<D> as Journal>⟧.state D.told D.content D.power) (coord_back run.node run.cluster) run host.old (coord_standing x) d
         → let act = node_act run.cluster run.node (OfCoord x.durable) (OfCoordNow x.volatile) (cause_of cause.now) in IfSome act.logs HasRecord → IsToldBy (sight coord_seen ⟦<Log<D> as Journal>⟧.state D.told D.content D.power) host.new run.ended
         → IfOk result (λ done. Voted (sight coord_seen ⟦<Log<D> as Journal>⟧.state D.told D.content D.power) (coord_back run.node run.cluster) run host.new done.0 done.1 lines.new (coord_standing x) d act) }
     ensures err { (run : Run) (x : CoordNode) (d : Device) → run.node ≡ node.now → is_up host.old ≡ true
-        → IsHost (sight coord_seen ⟦<Log<D> as Journal>⟧.state D.told D.content D.power) (coord_back run.node run.cluster) run host.old (coord_standing x) d → HasReadsLeft run d
+        → IsHost (sight coord_seen ⟦<Log<D> as Journal>⟧.state D.told D.content D.power) (coord_back run.node run.cluster) run host.old (coord_standing x) d
         → let act = node_act run.cluster run.node (OfCoord x.durable) (OfCoordNow x.volatile) (cause_of cause.now) in IfSome act.logs HasRecord → IsToldBy (sight coord_seen ⟦<Log<D> as Journal>⟧.state D.told D.content D.power) host.new run.ended
         → IfErr result (λ fault. TurnRefused (sight coord_seen ⟦<Log<D> as Journal>⟧.state D.told D.content D.power) (coord_back run.node run.cluster) run fault host.new (coord_standing x) d act) }
     ensures grew { (ended : Told) → IsToldBy (sight coord_seen ⟦<Log<D> as Journal>⟧.state D.told D.content D.power) host.new ended → IsToldBy (sight coord_seen ⟦<Log<D> as Journal>⟧.state D.told D.content D.power) host.old ended }
@@ -141,11 +141,11 @@ pub(crate) fn coord_acts<D: Disk>(
     ensures count { length coords.new.items ≡ length coords.old.items }
     ensures ok { (r : Runs) (z : Session) (e : AnyEvent) (dc : ℕ) → z.world.parties.layout ≡ r.cluster → HasWorld z.world → node.now ≡ Coordinator dc → is_dc r.cluster dc ≡ true → place ≡ coord_index dc
         → AreAt (IsCoord (sight coord_seen ⟦<Log<D> as Journal>⟧.state D.told D.content D.power) r) coords.old.items z.world.parties.coords z.coords → IsDone z e → deed z.world.parties z.world.sent e ≡ coord_does z.world.parties dc (cause_of cause.now)
-        → HasNodeCause (cause_of cause.now) → HaveReadsLeft r coord_name z.coords → CoordsAreTold (sight coord_seen ⟦<Log<D> as Journal>⟧.state D.told D.content D.power) r coords.new.items
+        → HasNodeCause (cause_of cause.now) → CoordsAreTold (sight coord_seen ⟦<Log<D> as Journal>⟧.state D.told D.content D.power) r coords.new.items
         → IfOk result (λ done. CoordsActed (sight coord_seen ⟦<Log<D> as Journal>⟧.state D.told D.content D.power) r z e dc node.now coords.new.items done.0 lines.new done.1) }
     ensures err { (r : Runs) (z : Session) (e : AnyEvent) (dc : ℕ) → z.world.parties.layout ≡ r.cluster → HasWorld z.world → node.now ≡ Coordinator dc → is_dc r.cluster dc ≡ true → place ≡ coord_index dc
         → AreAt (IsCoord (sight coord_seen ⟦<Log<D> as Journal>⟧.state D.told D.content D.power) r) coords.old.items z.world.parties.coords z.coords → IsDone z e → deed z.world.parties z.world.sent e ≡ coord_does z.world.parties dc (cause_of cause.now)
-        → HasNodeCause (cause_of cause.now) → HaveReadsLeft r coord_name z.coords → CoordsAreTold (sight coord_seen ⟦<Log<D> as Journal>⟧.state D.told D.content D.power) r coords.new.items
+        → HasNodeCause (cause_of cause.now) → CoordsAreTold (sight coord_seen ⟦<Log<D> as Journal>⟧.state D.told D.content D.power) r coords.new.items
         → IfErr result (λ fault. ActRefused z e (AreAt (IsCoord (sight coord_seen ⟦<Log<D> as Journal>⟧.state D.told D.content D.power) r) coords.new.items z.world.parties.coords z.coords) fault) }
     ensures grew { (r : Runs) → CoordsAreTold (sight coord_seen ⟦<Log<D> as Journal>⟧.state D.told D.content D.power) r coords.new.items
         → CoordsAreTold (sight coord_seen ⟦<Log<D> as Journal>⟧.state D.told D.content D.power) r coords.old.items }

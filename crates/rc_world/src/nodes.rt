@@ -13,7 +13,7 @@ ghost use Rattle.rc_grammar.specs.Worlds.{HasEvent};
 ghost use Rattle.rc_begin.specs.Hosts.{views};
 ghost use Rattle.rc_world.specs.Words.{parts_of};
 ghost use Rattle.rc_begin.specs.Places.{coord_name, shard_name};
-ghost use Rattle.rc_begin.specs.Hosts.{Runs, HaveReadsLeft, CoordsAreTold, ShardsAreTold};
+ghost use Rattle.rc_begin.specs.Hosts.{Runs, CoordsAreTold, ShardsAreTold};
 ghost use Rattle.rc_world.specs.Steps.{IsDone, node_does};
 ghost use Rattle.rc_world.specs.Limits.{CauseIs};
 ghost use Rattle.rc_world.specs.Worlds.{IsWorld, HasActed, KeepsCarried, AreTold};
@@ -42,12 +42,12 @@ impl<F: Farm> World<F> {
         requires lines { lines.old ≡ [] }
         ensures ok { (r : Runs) (z : Session) (e : AnyEvent) → IsWorld (views ⟦<Log<F::D> as Journal>⟧.state F.D.told F.D.content F.D.power) r (parts_of self.old) z
             → HasNodeCause (cause_of cause.now) → IsDone z e → deed z.world.parties z.world.sent e ≡ shard_does z.world.parties dc shard (cause_of cause.now) → actor z.world.sent e ≡ NodeParty (ShardServer dc shard)
-            → wrong z.world e ≡ None → begins e ≡ false → HaveReadsLeft r (shard_name r.cluster) z.shards
+            → wrong z.world e ≡ None → begins e ≡ false
             → ShardsAreTold (views ⟦<Log<F::D> as Journal>⟧.state F.D.told F.D.content F.D.power).shards r (parts_of self.new).shards
             → IfOk result (λ s. HasActed (views ⟦<Log<F::D> as Journal>⟧.state F.D.told F.D.content F.D.power) r z e (parts_of self.new) s.from s.sends lines.new) }
         ensures err { (r : Runs) (z : Session) (e : AnyEvent) → IsWorld (views ⟦<Log<F::D> as Journal>⟧.state F.D.told F.D.content F.D.power) r (parts_of self.old) z
             → HasNodeCause (cause_of cause.now) → IsDone z e → deed z.world.parties z.world.sent e ≡ shard_does z.world.parties dc shard (cause_of cause.now) → actor z.world.sent e ≡ NodeParty (ShardServer dc shard)
-            → wrong z.world e ≡ None → begins e ≡ false → HaveReadsLeft r (shard_name r.cluster) z.shards
+            → wrong z.world e ≡ None → begins e ≡ false
             → ShardsAreTold (views ⟦<Log<F::D> as Journal>⟧.state F.D.told F.D.content F.D.power).shards r (parts_of self.new).shards
             → IfErr result (CauseIs z e) }
         ensures carried { KeepsCarried (parts_of self.old) (parts_of self.new) }
@@ -89,12 +89,12 @@ impl<F: Farm> World<F> {
         requires lines { lines.old ≡ [] }
         ensures ok { (r : Runs) (z : Session) (e : AnyEvent) → IsWorld (views ⟦<Log<F::D> as Journal>⟧.state F.D.told F.D.content F.D.power) r (parts_of self.old) z
             → HasNodeCause (cause_of cause.now) → IsDone z e → deed z.world.parties z.world.sent e ≡ coord_does z.world.parties dc (cause_of cause.now) → actor z.world.sent e ≡ NodeParty (Coordinator dc)
-            → wrong z.world e ≡ None → begins e ≡ false → HaveReadsLeft r coord_name z.coords
+            → wrong z.world e ≡ None → begins e ≡ false
             → CoordsAreTold (views ⟦<Log<F::D> as Journal>⟧.state F.D.told F.D.content F.D.power).coords r (parts_of self.new).coords
             → IfOk result (λ s. HasActed (views ⟦<Log<F::D> as Journal>⟧.state F.D.told F.D.content F.D.power) r z e (parts_of self.new) s.from s.sends lines.new) }
         ensures err { (r : Runs) (z : Session) (e : AnyEvent) → IsWorld (views ⟦<Log<F::D> as Journal>⟧.state F.D.told F.D.content F.D.power) r (parts_of self.old) z
             → HasNodeCause (cause_of cause.now) → IsDone z e → deed z.world.parties z.world.sent e ≡ coord_does z.world.parties dc (cause_of cause.now) → actor z.world.sent e ≡ NodeParty (Coordinator dc)
-            → wrong z.world e ≡ None → begins e ≡ false → HaveReadsLeft r coord_name z.coords
+            → wrong z.world e ≡ None → begins e ≡ false
             → CoordsAreTold (views ⟦<Log<F::D> as Journal>⟧.state F.D.told F.D.content F.D.power).coords r (parts_of self.new).coords
             → IfErr result (CauseIs z e) }
         ensures carried { KeepsCarried (parts_of self.old) (parts_of self.new) }
@@ -129,13 +129,13 @@ impl<F: Farm> World<F> {
         requires lines { lines.old ≡ [] }
         ensures ok { (r : Runs) (z : Session) (e : AnyEvent) → IsWorld (views ⟦<Log<F::D> as Journal>⟧.state F.D.told F.D.content F.D.power) r (parts_of self.old) z
             → HasNodeCause (cause_of cause.now) → IsDone z e → deed z.world.parties z.world.sent e ≡ node_does z.world.parties node.now (cause_of cause.now) → actor z.world.sent e ≡ NodeParty node.now
-            → wrong z.world e ≡ None → begins e ≡ false → HaveReadsLeft r coord_name z.coords → HaveReadsLeft r (shard_name r.cluster) z.shards
+            → wrong z.world e ≡ None → begins e ≡ false
             → CoordsAreTold (views ⟦<Log<F::D> as Journal>⟧.state F.D.told F.D.content F.D.power).coords r (parts_of self.new).coords
             → ShardsAreTold (views ⟦<Log<F::D> as Journal>⟧.state F.D.told F.D.content F.D.power).shards r (parts_of self.new).shards
             → IfOk result (λ s. HasActed (views ⟦<Log<F::D> as Journal>⟧.state F.D.told F.D.content F.D.power) r z e (parts_of self.new) s.from s.sends lines.new) }
         ensures err { (r : Runs) (z : Session) (e : AnyEvent) → IsWorld (views ⟦<Log<F::D> as Journal>⟧.state F.D.told F.D.content F.D.power) r (parts_of self.old) z
             → HasNodeCause (cause_of cause.now) → IsDone z e → deed z.world.parties z.world.sent e ≡ node_does z.world.parties node.now (cause_of cause.now) → actor z.world.sent e ≡ NodeParty node.now
-            → wrong z.world e ≡ None → begins e ≡ false → HaveReadsLeft r coord_name z.coords → HaveReadsLeft r (shard_name r.cluster) z.shards
+            → wrong z.world e ≡ None → begins e ≡ false
             → CoordsAreTold (views ⟦<Log<F::D> as Journal>⟧.state F.D.told F.D.content F.D.power).coords r (parts_of self.new).coords
             → ShardsAreTold (views ⟦<Log<F::D> as Journal>⟧.state F.D.told F.D.content F.D.power).shards r (parts_of self.new).shards
             → IfErr result (CauseIs z e) }
@@ -152,12 +152,10 @@ impl<F: Farm> World<F> {
     pub(crate) fn catch(&mut self, node: &NodeId, lines: &mut Lines) -> Result<Sending, WorldFault>
         requires lines { lines.old ≡ [] }
         ensures ok { (r : Runs) (z : Session) → IsWorld (views ⟦<Log<F::D> as Journal>⟧.state F.D.told F.D.content F.D.power) r (parts_of self.old) z
-            → HaveReadsLeft r coord_name z.coords → HaveReadsLeft r (shard_name r.cluster) z.shards
             → CoordsAreTold (views ⟦<Log<F::D> as Journal>⟧.state F.D.told F.D.content F.D.power).coords r (parts_of self.new).coords
             → ShardsAreTold (views ⟦<Log<F::D> as Journal>⟧.state F.D.told F.D.content F.D.power).shards r (parts_of self.new).shards
             → IfOk result (λ s. HasActed (views ⟦<Log<F::D> as Journal>⟧.state F.D.told F.D.content F.D.power) r z (Catch node.now) (parts_of self.new) s.from s.sends lines.new) }
         ensures err { (r : Runs) (z : Session) → IsWorld (views ⟦<Log<F::D> as Journal>⟧.state F.D.told F.D.content F.D.power) r (parts_of self.old) z
-            → HaveReadsLeft r coord_name z.coords → HaveReadsLeft r (shard_name r.cluster) z.shards
             → CoordsAreTold (views ⟦<Log<F::D> as Journal>⟧.state F.D.told F.D.content F.D.power).coords r (parts_of self.new).coords
             → ShardsAreTold (views ⟦<Log<F::D> as Journal>⟧.state F.D.told F.D.content F.D.power).shards r (parts_of self.new).shards
             → IfErr result (CauseIs z (Catch node.now)) }
@@ -177,11 +175,11 @@ impl<F: Farm> World<F> {
     ) -> Result<Sending, WorldFault>
         requires lines { lines.old ≡ [] }
         ensures ok { (r : Runs) (z : Session) → IsWorld (views ⟦<Log<F::D> as Journal>⟧.state F.D.told F.D.content F.D.power) r (parts_of self.old) z
-            → HasEvent (Take dc tx) → HaveReadsLeft r coord_name z.coords
+            → HasEvent (Take dc tx)
             → CoordsAreTold (views ⟦<Log<F::D> as Journal>⟧.state F.D.told F.D.content F.D.power).coords r (parts_of self.new).coords
             → IfOk result (λ s. HasActed (views ⟦<Log<F::D> as Journal>⟧.state F.D.told F.D.content F.D.power) r z (Take dc tx) (parts_of self.new) s.from s.sends lines.new) }
         ensures err { (r : Runs) (z : Session) → IsWorld (views ⟦<Log<F::D> as Journal>⟧.state F.D.told F.D.content F.D.power) r (parts_of self.old) z
-            → HasEvent (Take dc tx) → HaveReadsLeft r coord_name z.coords
+            → HasEvent (Take dc tx)
             → CoordsAreTold (views ⟦<Log<F::D> as Journal>⟧.state F.D.told F.D.content F.D.power).coords r (parts_of self.new).coords
             → IfErr result (CauseIs z (Take dc tx)) }
         ensures carried { KeepsCarried (parts_of self.old) (parts_of self.new) }

@@ -9,7 +9,7 @@ ghost use Rattle.rc_runs.specs.World.{deed, received, actor};
 ghost use Rattle.rc_begin.specs.Hosts.{views};
 ghost use Rattle.rc_world.specs.Words.{parts_of};
 ghost use Rattle.rc_begin.specs.Places.{coord_name, shard_name};
-ghost use Rattle.rc_begin.specs.Hosts.{Runs, HaveReadsLeft, CoordsAreTold, ShardsAreTold};
+ghost use Rattle.rc_begin.specs.Hosts.{Runs, CoordsAreTold, ShardsAreTold};
 ghost use Rattle.rc_world.specs.Steps.{IsDone};
 ghost use Rattle.rc_world.specs.Limits.{CauseIs};
 ghost use Rattle.rc_world.specs.Worlds.{IsWorld, HasActed, KeepsCarried, AreTold};
@@ -30,13 +30,11 @@ impl<F: Farm> World<F> {
         requires lines { lines.old ≡ [] }
         ensures ok { (r : Runs) (z : Session) (e : AnyEvent) → IsWorld (views ⟦<Log<F::D> as Journal>⟧.state F.D.told F.D.content F.D.power) r (parts_of self.old) z
             → HasEnvelope envelope.now → IsDone z e → deed z.world.parties z.world.sent e ≡ received z.world.parties envelope.now envelope.now.to → actor z.world.sent e ≡ envelope.now.to → wrong z.world e ≡ None → begins e ≡ false
-            → HaveReadsLeft r coord_name z.coords → HaveReadsLeft r (shard_name r.cluster) z.shards
             → CoordsAreTold (views ⟦<Log<F::D> as Journal>⟧.state F.D.told F.D.content F.D.power).coords r (parts_of self.new).coords
             → ShardsAreTold (views ⟦<Log<F::D> as Journal>⟧.state F.D.told F.D.content F.D.power).shards r (parts_of self.new).shards
             → IfOk result (λ s. HasActed (views ⟦<Log<F::D> as Journal>⟧.state F.D.told F.D.content F.D.power) r z e (parts_of self.new) s.from s.sends lines.new) }
         ensures err { (r : Runs) (z : Session) (e : AnyEvent) → IsWorld (views ⟦<Log<F::D> as Journal>⟧.state F.D.told F.D.content F.D.power) r (parts_of self.old) z
             → HasEnvelope envelope.now → IsDone z e → deed z.world.parties z.world.sent e ≡ received z.world.parties envelope.now envelope.now.to → actor z.world.sent e ≡ envelope.now.to → wrong z.world e ≡ None → begins e ≡ false
-            → HaveReadsLeft r coord_name z.coords → HaveReadsLeft r (shard_name r.cluster) z.shards
             → CoordsAreTold (views ⟦<Log<F::D> as Journal>⟧.state F.D.told F.D.content F.D.power).coords r (parts_of self.new).coords
             → ShardsAreTold (views ⟦<Log<F::D> as Journal>⟧.state F.D.told F.D.content F.D.power).shards r (parts_of self.new).shards
             → IfErr result (CauseIs z e) }
@@ -55,12 +53,10 @@ impl<F: Farm> World<F> {
     pub(crate) fn deliver(&mut self, number: u32, lines: &mut Lines) -> Result<Sending, WorldFault>
         requires lines { lines.old ≡ [] }
         ensures ok { (r : Runs) (z : Session) → IsWorld (views ⟦<Log<F::D> as Journal>⟧.state F.D.told F.D.content F.D.power) r (parts_of self.old) z
-            → HaveReadsLeft r coord_name z.coords → HaveReadsLeft r (shard_name r.cluster) z.shards
             → CoordsAreTold (views ⟦<Log<F::D> as Journal>⟧.state F.D.told F.D.content F.D.power).coords r (parts_of self.new).coords
             → ShardsAreTold (views ⟦<Log<F::D> as Journal>⟧.state F.D.told F.D.content F.D.power).shards r (parts_of self.new).shards
             → IfOk result (λ s. HasActed (views ⟦<Log<F::D> as Journal>⟧.state F.D.told F.D.content F.D.power) r z (Deliver number) (parts_of self.new) s.from s.sends lines.new) }
         ensures err { (r : Runs) (z : Session) → IsWorld (views ⟦<Log<F::D> as Journal>⟧.state F.D.told F.D.content F.D.power) r (parts_of self.old) z
-            → HaveReadsLeft r coord_name z.coords → HaveReadsLeft r (shard_name r.cluster) z.shards
             → CoordsAreTold (views ⟦<Log<F::D> as Journal>⟧.state F.D.told F.D.content F.D.power).coords r (parts_of self.new).coords
             → ShardsAreTold (views ⟦<Log<F::D> as Journal>⟧.state F.D.told F.D.content F.D.power).shards r (parts_of self.new).shards
             → IfErr result (CauseIs z (Deliver number)) }

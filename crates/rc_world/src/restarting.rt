@@ -8,7 +8,7 @@ ghost use Rattle.rc_runs.specs.World.{is_up};
 ghost use Rattle.rc_begin.specs.Hosts.{views};
 ghost use Rattle.rc_world.specs.Words.{parts_of};
 ghost use Rattle.rc_begin.specs.Places.{coord_name, shard_name};
-ghost use Rattle.rc_begin.specs.Hosts.{Runs, HaveReadsLeft};
+ghost use Rattle.rc_begin.specs.Hosts.{Runs};
 ghost use Rattle.rc_world.specs.Steps.{event_limit};
 ghost use Rattle.rc_world.specs.Limits.{CauseIs};
 ghost use Rattle.rc_world.specs.Worlds.{IsWorld, HasActed, KeepsCarried, AreTold};
@@ -28,10 +28,10 @@ impl<F: Farm> World<F> {
     /// A coordinator that is down starts, if it is one of the world.
     fn coord_restarts(&mut self, dc: DcId) -> Result<Sending, WorldFault>
         ensures ok { (r : Runs) (z : Session) → IsWorld (views ⟦<Log<F::D> as Journal>⟧.state F.D.told F.D.content F.D.power) r (parts_of self.old) z → event_limit (parts_of self.old).events ≡ None → is_up z.world.parties (Coordinator dc) ≡ false
-            → HaveReadsLeft r coord_name z.coords → AreTold (views ⟦<Log<F::D> as Journal>⟧.state F.D.told F.D.content F.D.power) r (parts_of self.new)
+            → AreTold (views ⟦<Log<F::D> as Journal>⟧.state F.D.told F.D.content F.D.power) r (parts_of self.new)
             → IfOk result (λ s. HasActed (views ⟦<Log<F::D> as Journal>⟧.state F.D.told F.D.content F.D.power) r z (Restart (Coordinator dc)) (parts_of self.new) s.from s.sends (Up (Coordinator dc) ∷ [])) }
         ensures err { (r : Runs) (z : Session) → IsWorld (views ⟦<Log<F::D> as Journal>⟧.state F.D.told F.D.content F.D.power) r (parts_of self.old) z → event_limit (parts_of self.old).events ≡ None → is_up z.world.parties (Coordinator dc) ≡ false
-            → HaveReadsLeft r coord_name z.coords → AreTold (views ⟦<Log<F::D> as Journal>⟧.state F.D.told F.D.content F.D.power) r (parts_of self.new)
+            → AreTold (views ⟦<Log<F::D> as Journal>⟧.state F.D.told F.D.content F.D.power) r (parts_of self.new)
             → IfErr result (CauseIs z (Restart (Coordinator dc))) }
         ensures carried { KeepsCarried (parts_of self.old) (parts_of self.new) }
         ensures grew { (r : Runs) → AreTold (views ⟦<Log<F::D> as Journal>⟧.state F.D.told F.D.content F.D.power) r (parts_of self.new) → AreTold (views ⟦<Log<F::D> as Journal>⟧.state F.D.told F.D.content F.D.power) r (parts_of self.old) }
@@ -61,10 +61,10 @@ impl<F: Farm> World<F> {
     /// A shard server that is down starts, if it is one of the world.
     fn shard_restarts(&mut self, dc: DcId, shard: ShardId) -> Result<Sending, WorldFault>
         ensures ok { (r : Runs) (z : Session) → IsWorld (views ⟦<Log<F::D> as Journal>⟧.state F.D.told F.D.content F.D.power) r (parts_of self.old) z → event_limit (parts_of self.old).events ≡ None → is_up z.world.parties (ShardServer dc shard) ≡ false
-            → HaveReadsLeft r (shard_name r.cluster) z.shards → AreTold (views ⟦<Log<F::D> as Journal>⟧.state F.D.told F.D.content F.D.power) r (parts_of self.new)
+            → AreTold (views ⟦<Log<F::D> as Journal>⟧.state F.D.told F.D.content F.D.power) r (parts_of self.new)
             → IfOk result (λ s. HasActed (views ⟦<Log<F::D> as Journal>⟧.state F.D.told F.D.content F.D.power) r z (Restart (ShardServer dc shard)) (parts_of self.new) s.from s.sends (Up (ShardServer dc shard) ∷ [])) }
         ensures err { (r : Runs) (z : Session) → IsWorld (views ⟦<Log<F::D> as Journal>⟧.state F.D.told F.D.content F.D.power) r (parts_of self.old) z → event_limit (parts_of self.old).events ≡ None → is_up z.world.parties (ShardServer dc shard) ≡ false
-            → HaveReadsLeft r (shard_name r.cluster) z.shards → AreTold (views ⟦<Log<F::D> as Journal>⟧.state F.D.told F.D.content F.D.power) r (parts_of self.new)
+            → AreTold (views ⟦<Log<F::D> as Journal>⟧.state F.D.told F.D.content F.D.power) r (parts_of self.new)
             → IfErr result (CauseIs z (Restart (ShardServer dc shard))) }
         ensures carried { KeepsCarried (parts_of self.old) (parts_of self.new) }
         ensures grew { (r : Runs) → AreTold (views ⟦<Log<F::D> as Journal>⟧.state F.D.told F.D.content F.D.power) r (parts_of self.new) → AreTold (views ⟦<Log<F::D> as Journal>⟧.state F.D.told F.D.content F.D.power) r (parts_of self.old) }
@@ -93,10 +93,10 @@ impl<F: Farm> World<F> {
     /// A node that is down starts, if it is one of the world.
     fn node_restarts(&mut self, node: &NodeId) -> Result<Sending, WorldFault>
         ensures ok { (r : Runs) (z : Session) → IsWorld (views ⟦<Log<F::D> as Journal>⟧.state F.D.told F.D.content F.D.power) r (parts_of self.old) z → event_limit (parts_of self.old).events ≡ None → is_up z.world.parties node.now ≡ false
-            → HaveReadsLeft r coord_name z.coords → HaveReadsLeft r (shard_name r.cluster) z.shards → AreTold (views ⟦<Log<F::D> as Journal>⟧.state F.D.told F.D.content F.D.power) r (parts_of self.new)
+            → AreTold (views ⟦<Log<F::D> as Journal>⟧.state F.D.told F.D.content F.D.power) r (parts_of self.new)
             → IfOk result (λ s. HasActed (views ⟦<Log<F::D> as Journal>⟧.state F.D.told F.D.content F.D.power) r z (Restart node.now) (parts_of self.new) s.from s.sends (Up node.now ∷ [])) }
         ensures err { (r : Runs) (z : Session) → IsWorld (views ⟦<Log<F::D> as Journal>⟧.state F.D.told F.D.content F.D.power) r (parts_of self.old) z → event_limit (parts_of self.old).events ≡ None → is_up z.world.parties node.now ≡ false
-            → HaveReadsLeft r coord_name z.coords → HaveReadsLeft r (shard_name r.cluster) z.shards → AreTold (views ⟦<Log<F::D> as Journal>⟧.state F.D.told F.D.content F.D.power) r (parts_of self.new)
+            → AreTold (views ⟦<Log<F::D> as Journal>⟧.state F.D.told F.D.content F.D.power) r (parts_of self.new)
             → IfErr result (CauseIs z (Restart node.now)) }
         ensures carried { KeepsCarried (parts_of self.old) (parts_of self.new) }
         ensures grew { (r : Runs) → AreTold (views ⟦<Log<F::D> as Journal>⟧.state F.D.told F.D.content F.D.power) r (parts_of self.new) → AreTold (views ⟦<Log<F::D> as Journal>⟧.state F.D.told F.D.content F.D.power) r (parts_of self.old) }
@@ -115,10 +115,10 @@ impl<F: Farm> World<F> {
     ) -> Result<Sending, WorldFault>
         requires lines { lines.old ≡ [] }
         ensures ok { (r : Runs) (z : Session) → IsWorld (views ⟦<Log<F::D> as Journal>⟧.state F.D.told F.D.content F.D.power) r (parts_of self.old) z
-            → HaveReadsLeft r coord_name z.coords → HaveReadsLeft r (shard_name r.cluster) z.shards → AreTold (views ⟦<Log<F::D> as Journal>⟧.state F.D.told F.D.content F.D.power) r (parts_of self.new)
+            → AreTold (views ⟦<Log<F::D> as Journal>⟧.state F.D.told F.D.content F.D.power) r (parts_of self.new)
             → IfOk result (λ s. HasActed (views ⟦<Log<F::D> as Journal>⟧.state F.D.told F.D.content F.D.power) r z (Restart node.now) (parts_of self.new) s.from s.sends lines.new) }
         ensures err { (r : Runs) (z : Session) → IsWorld (views ⟦<Log<F::D> as Journal>⟧.state F.D.told F.D.content F.D.power) r (parts_of self.old) z
-            → HaveReadsLeft r coord_name z.coords → HaveReadsLeft r (shard_name r.cluster) z.shards → AreTold (views ⟦<Log<F::D> as Journal>⟧.state F.D.told F.D.content F.D.power) r (parts_of self.new)
+            → AreTold (views ⟦<Log<F::D> as Journal>⟧.state F.D.told F.D.content F.D.power) r (parts_of self.new)
             → IfErr result (CauseIs z (Restart node.now)) }
         ensures carried { KeepsCarried (parts_of self.old) (parts_of self.new) }
         ensures grew { (r : Runs) → AreTold (views ⟦<Log<F::D> as Journal>⟧.state F.D.told F.D.content F.D.power) r (parts_of self.new) → AreTold (views ⟦<Log<F::D> as Journal>⟧.state F.D.told F.D.content F.D.power) r (parts_of self.old) }

@@ -14,7 +14,7 @@ ghost use Rattle.rc_grammar.specs.Acts.{HasNodeCause};
 ghost use Rattle.rc_grammar.specs.Worlds.{HasWorld};
 ghost use Rattle.rc_begin.specs.Places.{shard_name, AreAt, AllAt};
 ghost use Rattle.rc_begin.specs.Wells.{is_well};
-ghost use Rattle.rc_begin.specs.Hosts.{Runs, IsShard, ShardsAreTold, HaveReadsLeft};
+ghost use Rattle.rc_begin.specs.Hosts.{Runs, IsShard, ShardsAreTold};
 ghost use Rattle.rc_world.specs.Steps.{IsDone};
 ghost use Rattle.rc_world.specs.Acted.{ShardsActed};
 ghost use Rattle.rc_world.specs.Refused.{ActRefused};
@@ -64,11 +64,11 @@ pub(crate) fn shard_acts<D: Disk>(
     ensures count { length shards.new.items ≡ length shards.old.items }
     ensures ok { (r : Runs) (z : Session) (e : AnyEvent) (dc shard : ℕ) → r.cluster ≡ cluster.now → z.world.parties.layout ≡ r.cluster → HasWorld z.world → node.now ≡ ShardServer dc shard → is_of_world r.cluster dc shard ≡ true → place ≡ shard_index r.cluster dc shard
         → AreAt (IsShard (sight shard_seen ⟦<Log<D> as Journal>⟧.state D.told D.content D.power) r) shards.old.items z.world.parties.shards z.shards → IsDone z e → deed z.world.parties z.world.sent e ≡ shard_does z.world.parties dc shard (cause_of cause.now)
-        → HasNodeCause (cause_of cause.now) → HaveReadsLeft r (shard_name r.cluster) z.shards → ShardsAreTold (sight shard_seen ⟦<Log<D> as Journal>⟧.state D.told D.content D.power) r shards.new.items
+        → HasNodeCause (cause_of cause.now) → ShardsAreTold (sight shard_seen ⟦<Log<D> as Journal>⟧.state D.told D.content D.power) r shards.new.items
         → IfOk result (λ out. ShardsActed (sight shard_seen ⟦<Log<D> as Journal>⟧.state D.told D.content D.power) r z e node.now shards.new.items out lines.new) }
     ensures err { (r : Runs) (z : Session) (e : AnyEvent) (dc shard : ℕ) → r.cluster ≡ cluster.now → z.world.parties.layout ≡ r.cluster → HasWorld z.world → node.now ≡ ShardServer dc shard → is_of_world r.cluster dc shard ≡ true → place ≡ shard_index r.cluster dc shard
         → AreAt (IsShard (sight shard_seen ⟦<Log<D> as Journal>⟧.state D.told D.content D.power) r) shards.old.items z.world.parties.shards z.shards → IsDone z e → deed z.world.parties z.world.sent e ≡ shard_does z.world.parties dc shard (cause_of cause.now)
-        → HasNodeCause (cause_of cause.now) → HaveReadsLeft r (shard_name r.cluster) z.shards → ShardsAreTold (sight shard_seen ⟦<Log<D> as Journal>⟧.state D.told D.content D.power) r shards.new.items
+        → HasNodeCause (cause_of cause.now) → ShardsAreTold (sight shard_seen ⟦<Log<D> as Journal>⟧.state D.told D.content D.power) r shards.new.items
         → IfErr result (λ fault. ActRefused z e (AreAt (IsShard (sight shard_seen ⟦<Log<D> as Journal>⟧.state D.told D.content D.power) r) shards.new.items z.world.parties.shards z.shards) fault) }
     ensures grew { (r : Runs) → ShardsAreTold (sight shard_seen ⟦<Log<D> as Journal>⟧.state D.told D.content D.power) r shards.new.items
         → ShardsAreTold (sight shard_seen ⟦<Log<D> as Journal>⟧.state D.told D.content D.power) r shards.old.items }

@@ -14,7 +14,7 @@ ghost use Rattle.rc_host.specs.AnyNode.{IsCoordinator, IsShardServer, coord_seen
 ghost use Rattle.rc_host.specs.Hosts.{sight};
 ghost use Rattle.rc_begin.specs.Places.{coord_name, shard_name, AreAt};
 ghost use Rattle.rc_begin.specs.Wells.{is_well};
-ghost use Rattle.rc_begin.specs.Hosts.{Runs, IsCoord, IsShard, CoordsAreTold, ShardsAreTold, HaveReadsLeft};
+ghost use Rattle.rc_begin.specs.Hosts.{Runs, IsCoord, IsShard, CoordsAreTold, ShardsAreTold};
 ghost use Rattle.rc_world.specs.Acted.{ShardsActed};
 ghost use Rattle.rc_world.specs.CoordActed.{CoordsActed};
 ghost use Rattle.rc_world.specs.Turns.{start_fault};
@@ -56,10 +56,10 @@ pub(crate) fn coord_starts<D: Disk>(
     ensures well { IsTrue (list_all (is_well (λ n. n.stopped)) coords.new.items) }
     ensures count { length coords.new.items ≡ length coords.old.items }
     ensures ok { (r : Runs) (z : Session) (dc : ℕ) → node.now ≡ Coordinator dc → r.cluster ≡ cluster.now → z.world.parties.layout ≡ r.cluster → is_dc r.cluster dc ≡ true → place ≡ coord_index dc → is_up z.world.parties (Coordinator dc) ≡ false
-        → AreAt (IsCoord (sight coord_seen ⟦<Log<D> as Journal>⟧.state D.told D.content D.power) r) coords.old.items z.world.parties.coords z.coords → HaveReadsLeft r coord_name z.coords → CoordsAreTold (sight coord_seen ⟦<Log<D> as Journal>⟧.state D.told D.content D.power) r coords.new.items
+        → AreAt (IsCoord (sight coord_seen ⟦<Log<D> as Journal>⟧.state D.told D.content D.power) r) coords.old.items z.world.parties.coords z.coords → CoordsAreTold (sight coord_seen ⟦<Log<D> as Journal>⟧.state D.told D.content D.power) r coords.new.items
         → IfOk result (λ _. CoordsActed (sight coord_seen ⟦<Log<D> as Journal>⟧.state D.told D.content D.power) r z (Restart (Coordinator dc)) dc (Coordinator dc) coords.new.items out.new (Up (Coordinator dc) ∷ []) None) }
     ensures err { (r : Runs) (z : Session) (dc : ℕ) → node.now ≡ Coordinator dc → r.cluster ≡ cluster.now → z.world.parties.layout ≡ r.cluster → is_dc r.cluster dc ≡ true → place ≡ coord_index dc → is_up z.world.parties (Coordinator dc) ≡ false
-        → AreAt (IsCoord (sight coord_seen ⟦<Log<D> as Journal>⟧.state D.told D.content D.power) r) coords.old.items z.world.parties.coords z.coords → HaveReadsLeft r coord_name z.coords → CoordsAreTold (sight coord_seen ⟦<Log<D> as Journal>⟧.state D.told D.content D.power) r coords.new.items
+        → AreAt (IsCoord (sight coord_seen ⟦<Log<D> as Journal>⟧.state D.told D.content D.power) r) coords.old.items z.world.parties.coords z.coords → CoordsAreTold (sight coord_seen ⟦<Log<D> as Journal>⟧.state D.told D.content D.power) r coords.new.items
         → IfErr result (λ fault. StartRefused z (Restart (Coordinator dc)) (λ devices. AreAt (IsCoord (sight coord_seen ⟦<Log<D> as Journal>⟧.state D.told D.content D.power) r) coords.new.items z.world.parties.coords devices) fault) }
     ensures grew { (r : Runs) → CoordsAreTold (sight coord_seen ⟦<Log<D> as Journal>⟧.state D.told D.content D.power) r coords.new.items → CoordsAreTold (sight coord_seen ⟦<Log<D> as Journal>⟧.state D.told D.content D.power) r coords.old.items }
 {
@@ -85,10 +85,10 @@ pub(crate) fn shard_starts<D: Disk>(
     ensures well { IsTrue (list_all (is_well (λ n. n.stopped)) shards.new.items) }
     ensures count { length shards.new.items ≡ length shards.old.items }
     ensures ok { (r : Runs) (z : Session) (dc shard : ℕ) → node.now ≡ ShardServer dc shard → r.cluster ≡ cluster.now → z.world.parties.layout ≡ r.cluster → is_of_world r.cluster dc shard ≡ true → place ≡ shard_index r.cluster dc shard → is_up z.world.parties (ShardServer dc shard) ≡ false
-        → AreAt (IsShard (sight shard_seen ⟦<Log<D> as Journal>⟧.state D.told D.content D.power) r) shards.old.items z.world.parties.shards z.shards → HaveReadsLeft r (shard_name r.cluster) z.shards → ShardsAreTold (sight shard_seen ⟦<Log<D> as Journal>⟧.state D.told D.content D.power) r shards.new.items
+        → AreAt (IsShard (sight shard_seen ⟦<Log<D> as Journal>⟧.state D.told D.content D.power) r) shards.old.items z.world.parties.shards z.shards → ShardsAreTold (sight shard_seen ⟦<Log<D> as Journal>⟧.state D.told D.content D.power) r shards.new.items
         → IfOk result (λ _. ShardsActed (sight shard_seen ⟦<Log<D> as Journal>⟧.state D.told D.content D.power) r z (Restart (ShardServer dc shard)) (ShardServer dc shard) shards.new.items out.new (Up (ShardServer dc shard) ∷ [])) }
     ensures err { (r : Runs) (z : Session) (dc shard : ℕ) → node.now ≡ ShardServer dc shard → r.cluster ≡ cluster.now → z.world.parties.layout ≡ r.cluster → is_of_world r.cluster dc shard ≡ true → place ≡ shard_index r.cluster dc shard → is_up z.world.parties (ShardServer dc shard) ≡ false
-        → AreAt (IsShard (sight shard_seen ⟦<Log<D> as Journal>⟧.state D.told D.content D.power) r) shards.old.items z.world.parties.shards z.shards → HaveReadsLeft r (shard_name r.cluster) z.shards → ShardsAreTold (sight shard_seen ⟦<Log<D> as Journal>⟧.state D.told D.content D.power) r shards.new.items
+        → AreAt (IsShard (sight shard_seen ⟦<Log<D> as Journal>⟧.state D.told D.content D.power) r) shards.old.items z.world.parties.shards z.shards → ShardsAreTold (sight shard_seen ⟦<Log<D> as Journal>⟧.state D.told D.content D.power) r shards.new.items
         → IfErr result (λ fault. StartRefused z (Restart (ShardServer dc shard)) (λ devices. AreAt (IsShard (sight shard_seen ⟦<Log<D> as Journal>⟧.state D.told D.content D.power) r) shards.new.items z.world.parties.shards devices) fault) }
     ensures grew { (r : Runs) → ShardsAreTold (sight shard_seen ⟦<Log<D> as Journal>⟧.state D.told D.content D.power) r shards.new.items → ShardsAreTold (sight shard_seen ⟦<Log<D> as Journal>⟧.state D.told D.content D.power) r shards.old.items }
 {

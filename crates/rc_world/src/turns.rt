@@ -7,7 +7,7 @@ ghost use Rattle.rc_runs.specs.Devices.{Device};
 ghost use Rattle.rc_disk.specs.Calls.{Told};
 ghost use Rattle.rc_host.specs.AnyNode.{node_act};
 ghost use Rattle.rc_host.specs.Standing.{Standing};
-ghost use Rattle.rc_host.specs.Hosts.{IsThere, CountsOn, Run, sight, is_up, IfUp, IsHost, IsToldBy, HasReadsLeft};
+ghost use Rattle.rc_host.specs.Hosts.{IsThere, CountsOn, Run, sight, is_up, IfUp, IsHost, IsToldBy};
 ghost use Rattle.rc_host.specs.Causes.{cause_of};
 ghost use Rattle.rc_host.specs.declared.host.Course.TheVariants.{Goes};
 ghost use Rattle.rc_begin.specs.declared.fault.WorldFault.TheVariants.{NoMemory as OutOfMemory};
@@ -47,10 +47,10 @@ pub(crate) fn turn<D: Disk, N: Node<Log<D>>>(
     requires lines { lines.old ≡ [] }
     ensures up { IfUp host.new (λ n. (N.seen n).stopped ≡ false) }
     ensures there { IsThere host.old → IsThere host.new }
-    ensures ok { (run : Run) (x : Standing) (d : Device) → run.node ≡ node.now → is_up host.old ≡ true → IsHost (sight N.seen ⟦<Log<D> as Journal>⟧.state D.told D.content D.power) (N.back run.node run.cluster) run host.old x d → HasReadsLeft run d
+    ensures ok { (run : Run) (x : Standing) (d : Device) → run.node ≡ node.now → is_up host.old ≡ true → IsHost (sight N.seen ⟦<Log<D> as Journal>⟧.state D.told D.content D.power) (N.back run.node run.cluster) run host.old x d
         → let act = node_act run.cluster run.node x.durable x.volatile (cause_of cause.now) in IfSome act.logs HasRecord → IsToldBy (sight N.seen ⟦<Log<D> as Journal>⟧.state D.told D.content D.power) host.new run.ended
         → IfOk result (λ done. Turned (sight N.seen ⟦<Log<D> as Journal>⟧.state D.told D.content D.power) (N.back run.node run.cluster) run host.new done.0 done.1 lines.new x d act) }
-    ensures err { (run : Run) (x : Standing) (d : Device) → run.node ≡ node.now → is_up host.old ≡ true → IsHost (sight N.seen ⟦<Log<D> as Journal>⟧.state D.told D.content D.power) (N.back run.node run.cluster) run host.old x d → HasReadsLeft run d
+    ensures err { (run : Run) (x : Standing) (d : Device) → run.node ≡ node.now → is_up host.old ≡ true → IsHost (sight N.seen ⟦<Log<D> as Journal>⟧.state D.told D.content D.power) (N.back run.node run.cluster) run host.old x d
         → let act = node_act run.cluster run.node x.durable x.volatile (cause_of cause.now) in IfSome act.logs HasRecord → IsToldBy (sight N.seen ⟦<Log<D> as Journal>⟧.state D.told D.content D.power) host.new run.ended
         → IfErr result (λ fault. TurnRefused (sight N.seen ⟦<Log<D> as Journal>⟧.state D.told D.content D.power) (N.back run.node run.cluster) run fault host.new x d act) }
     ensures counts { (run : Run) (x : Standing) (d : Device) → is_up host.old ≡ true → IsHost (sight N.seen ⟦<Log<D> as Journal>⟧.state D.told D.content D.power) (N.back run.node run.cluster) run host.old x d

@@ -15,7 +15,7 @@ use Rattle.rc_world.proofs.Wellness.{well_at, well_set}
 use Rattle.rc_world.proofs.coords.coord_acts.Goals as goal
 
 pub returns-clause-ok : goal.returns-clause-ok
-returns-clause-ok g c = λ r z e dc layout grammar node there spot are done is_deed has left told.
+returns-clause-ok g c = λ r z e dc layout grammar node there spot are done is_deed has told.
     let hosts = c.args.coords.now.items in
     let h = c.index_mut.result.now in
     let new = c.host_acts.new.host in
@@ -31,11 +31,11 @@ returns-clause-ok g c = λ r z e dc layout grammar node there spot are done is_d
     let spelled = logs_spelled _ r hosts z are layout dc there name within cause e done is_deed h new at own c.coords_speak.ensures grammar has in
     let told_here = turns.told_here _ r hosts z are layout dc there name within cause e done is_deed h new at own c.args.place spot told in
     acts_at _ r hosts z are layout dc there name within cause e done is_deed h new at own c.host_acts.result c.args.place c.args.node.now spot node
-    (λ is_up up. c.host_acts.ensures.ok (run_at r (coord_name place)) dc x device.0 (name ∙ sym node) name up is_up is.host (left place device.0 device.1) spelled told_here)
+    (λ is_up up. c.host_acts.ensures.ok (run_at r (coord_name place)) dc x device.0 (name ∙ sym node) name up is_up is.host spelled told_here)
     c.host_acts.ensures.idle
 
 pub returns-clause-err : goal.returns-clause-err
-returns-clause-err g c = λ r z e dc layout grammar node there spot are done is_deed has left told.
+returns-clause-err g c = λ r z e dc layout grammar node there spot are done is_deed has told.
     let hosts = c.args.coords.now.items in
     let h = c.index_mut.result.now in
     let new = c.host_acts.new.host in
@@ -51,7 +51,7 @@ returns-clause-err g c = λ r z e dc layout grammar node there spot are done is_
     let spelled = logs_spelled _ r hosts z are layout dc there name within cause e done is_deed h new at own c.coords_speak.ensures grammar has in
     let told_here = turns.told_here _ r hosts z are layout dc there name within cause e done is_deed h new at own c.args.place spot told in
     refuses_if _ r hosts z are layout dc there name within cause e done is_deed h new at own c.host_acts.result c.args.place c.args.node.now spot
-    (λ is_up. c.host_acts.ensures.err (run_at r (coord_name place)) x device.0 (name ∙ sym node) is_up is.host (left place device.0 device.1) spelled told_here)
+    (λ is_up. c.host_acts.ensures.err (run_at r (coord_name place)) x device.0 (name ∙ sym node) is_up is.host spelled told_here)
     c.host_acts.ensures.idle
 
 pub returns-clause-grew : goal.returns-clause-grew

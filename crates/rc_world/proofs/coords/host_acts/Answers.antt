@@ -11,8 +11,8 @@ use Rattle.rc_world.proofs.CoordVotes.{vote_is}
 use Rattle.rc_world.proofs.coords.host_acts.Goals as goal
 
 pub returns-in-Ok-vote_left-clause-ok : goal.returns-in-Ok-vote_left-clause-ok
-returns-in-Ok-vote_left-clause-ok g c = λ run dc x d named coordinator up up_host host left logged told.
-    let turned = c.in-Ok.ensures.ok run (coord_standing x) d named up_host host left logged told in
+returns-in-Ok-vote_left-clause-ok g c = λ run dc x d named coordinator up up_host host logged told.
+    let turned = c.in-Ok.ensures.ok run (coord_standing x) d named up_host host logged told in
     record {
       course = c.in-Ok.course;
       turned = turned;
@@ -22,10 +22,10 @@ returns-in-Ok-vote_left-clause-ok g c = λ run dc x d named coordinator up up_ho
     }
 
 pub returns-in-Err-vote_left-clause-err : goal.returns-in-Err-vote_left-clause-err
-returns-in-Err-vote_left-clause-err g c = λ run x d named up host left logged told.
-    let turned = c.in-Ok.ensures.ok run (coord_standing x) d named up host left logged told in
+returns-in-Err-vote_left-clause-err g c = λ run x d named up host logged told.
+    let turned = c.in-Ok.ensures.ok run (coord_standing x) d named up host logged told in
     let stops = c.in-Err-vote_left.ensures.err in
     Lost (record { kept = stops.0; comes = turned.went.course_is ∙ ap course_in stops.1 })
 
 pub returns-in-Err-clause-err : goal.returns-in-Err-clause-err
-returns-in-Err-clause-err g c = λ run x d named up host left logged told. c.in-Err.ensures.err run (coord_standing x) d named up host left logged told
+returns-in-Err-clause-err g c = λ run x d named up host logged told. c.in-Err.ensures.err run (coord_standing x) d named up host logged told

@@ -16,7 +16,7 @@ use Rattle.rc_world.proofs.Wellness.{well_at, well_set}
 use Rattle.rc_world.proofs.shards.shard_acts.Goals as goal
 
 pub returns-in-Ok-clause-ok : goal.returns-in-Ok-clause-ok
-returns-in-Ok-clause-ok g c = λ r z e dc shard cluster layout grammar node there spot are done is_deed has left told.
+returns-in-Ok-clause-ok g c = λ r z e dc shard cluster layout grammar node there spot are done is_deed has told.
     let hosts = c.args.shards.now.items in
     let h = c.index_mut.result.now in
     let new = c.turn.new.host in
@@ -32,11 +32,11 @@ returns-in-Ok-clause-ok g c = λ r z e dc shard cluster layout grammar node ther
     let spelled = logs_spelled _ r hosts z are layout dc shard there name within cause e done is_deed h new at own c.shards_speak.ensures grammar has in
     let told_here = turns.told_here _ r hosts z are layout dc shard there name within cause e done is_deed h new at own c.args.place spot told in
     acts_named _ r hosts z are layout dc shard there name within cause e done is_deed h new at own c.in-Ok.out c.in-Ok.field-0-1 c.args.place c.args.node.now spot node
-    (λ up. c.in-Ok.ensures.ok (run_at r (shard_name r.cluster place)) (shard_standing x) device.0 (name ∙ sym node) up is.host (left place device.0 device.1) spelled told_here)
+    (λ up. c.in-Ok.ensures.ok (run_at r (shard_name r.cluster place)) (shard_standing x) device.0 (name ∙ sym node) up is.host spelled told_here)
     (λ down. let k = c.in-Ok.ensures.idle down in (k.0, k.1, k.2.0))
 
 pub returns-in-Err-clause-err : goal.returns-in-Err-clause-err
-returns-in-Err-clause-err g c = λ r z e dc shard cluster layout grammar node there spot are done is_deed has left told.
+returns-in-Err-clause-err g c = λ r z e dc shard cluster layout grammar node there spot are done is_deed has told.
     let hosts = c.args.shards.now.items in
     let h = c.index_mut.result.now in
     let new = c.turn.new.host in
@@ -52,7 +52,7 @@ returns-in-Err-clause-err g c = λ r z e dc shard cluster layout grammar node th
     let spelled = logs_spelled _ r hosts z are layout dc shard there name within cause e done is_deed h new at own c.shards_speak.ensures grammar has in
     let told_here = turns.told_here _ r hosts z are layout dc shard there name within cause e done is_deed h new at own c.args.place spot told in
     refuses_at _ r hosts z are layout dc shard there name within cause e done is_deed h new at own c.in-Err.fault c.args.place spot
-    (λ up. c.in-Err.ensures.err (run_at r (shard_name r.cluster place)) (shard_standing x) device.0 (name ∙ sym node) up is.host (left place device.0 device.1) spelled told_here)
+    (λ up. c.in-Err.ensures.err (run_at r (shard_name r.cluster place)) (shard_standing x) device.0 (name ∙ sym node) up is.host spelled told_here)
     (λ down. let k = c.in-Err.ensures.idle down in (k.0, k.3))
 
 pub returns-in-Ok-clause-grew : goal.returns-in-Ok-clause-grew

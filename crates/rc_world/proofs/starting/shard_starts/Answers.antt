@@ -23,7 +23,7 @@ use Rattle.rc_world.proofs.Wellness.{well_at, well_set}
 use Rattle.rc_world.proofs.starting.shard_starts.Goals as goal
 
 pub returns-in-Ok-clause-ok : goal.returns-in-Ok-clause-ok
-returns-in-Ok-clause-ok g c = λ r z dc shard is_node cluster layout there spot down are left told.
+returns-in-Ok-clause-ok g c = λ r z dc shard is_node cluster layout there spot down are told.
     let hosts = c.args.shards.now.items in
     let h = c.index_mut.result.now in
     let place = shard_index r.cluster dc shard in
@@ -36,10 +36,10 @@ returns-in-Ok-clause-ok g c = λ r z dc shard is_node cluster layout there spot 
     let told_here = changes.told_here _ r hosts z are layout dc shard there within h c.rejoin.new.host at c.args.place spot told in
     let down_here = changes.up_here _ r hosts z are layout dc shard there within h c.rejoin.new.host at ∙ down in
     changes.restarts _ r hosts z are layout dc shard there within h c.rejoin.new.host at c.args.place c.args.out.now c.rejoin.new.out spot (c.requires.empty ∙ ap (λ (n : NodeId). new_outbox (Node n)) is_node) name
-    (c.in-Ok.ensures.ok (run_at r (shard_name r.cluster (shard_index r.cluster dc shard))) (shard_standing x) device.0 (name ∙ sym is_node) cluster down_here was.host (left place device.0 device.1) told_here)
+    (c.in-Ok.ensures.ok (run_at r (shard_name r.cluster (shard_index r.cluster dc shard))) (shard_standing x) device.0 (name ∙ sym is_node) cluster down_here was.host told_here)
 
 pub returns-in-Err-clause-err : goal.returns-in-Err-clause-err
-returns-in-Err-clause-err g c = λ r z dc shard is_node cluster layout there spot down are left told.
+returns-in-Err-clause-err g c = λ r z dc shard is_node cluster layout there spot down are told.
     let hosts = c.args.shards.now.items in
     let h = c.index_mut.result.now in
     let place = shard_index r.cluster dc shard in
@@ -51,7 +51,7 @@ returns-in-Err-clause-err g c = λ r z dc shard is_node cluster layout there spo
     let was = changes.host _ r hosts z are layout dc shard there within h c.rejoin.new.host at in
     let told_here = changes.told_here _ r hosts z are layout dc shard there within h c.rejoin.new.host at c.args.place spot told in
     let down_here = changes.up_here _ r hosts z are layout dc shard there within h c.rejoin.new.host at ∙ down in
-    let why = changes.stays_down _ r hosts z are layout dc shard there within h c.rejoin.new.host at c.in-Err.fault c.args.place spot (c.in-Err.ensures.err (run_at r (shard_name r.cluster (shard_index r.cluster dc shard))) (shard_standing x) device.0 (name ∙ sym is_node) cluster down_here was.host (left place device.0 device.1) told_here) in
+    let why = changes.stays_down _ r hosts z are layout dc shard there within h c.rejoin.new.host at c.in-Err.fault c.args.place spot (c.in-Err.ensures.err (run_at r (shard_name r.cluster (shard_index r.cluster dc shard))) (shard_standing x) device.0 (name ∙ sym is_node) cluster down_here was.host told_here) in
     let s = sight shard_seen (ghosts g.row.D g.D.Disk g.D.Disk-dict g.D.Destruct-dict).state g.D.Disk.told g.D.Disk.content g.D.Disk.power in
     refused_as z (Restart (ShardServer dc shard)) (λ (devices : List Device). AreAt (IsShard s r) (slice_set hosts c.args.place c.rejoin.new.host) z.world.parties.shards devices) (start_fault c.in-Err.fault) c.world_fault.result c.world_fault.ensures why
 
