@@ -1,19 +1,16 @@
 -- The farm has the disks of nodes back, one after another.
-use Rattle.std.proofs.Common.{◌≡◌, ℕ, zero, suc, ◌+◌, ◌-◌, ◌*◌, ◌/◌, ◌<◌, ◌≤◌, Bool, true, false, List, [], ◌∷◌, ◌++◌, length, Some, IfSome, IsTrue, refl, sym, ap, ◌∙◌, subst, arith, ◌⊎◌, inl, inr, ⊎_elim, length-append}
+use Rattle.std.proofs.Common.{◌≡◌, ℕ, zero, suc, ◌+◌, ◌*◌, ◌/◌, ◌<◌, ◌≤◌, Bool, true, false, List, [], ◌∷◌, ◌++◌, length, Some, IfSome, refl, sym, ap, ◌∙◌, subst, arith, ◌⊎◌, inl, inr, ⊎_elim, length-append}
 use Rattle.std.specs.Prelude.{◌≢◌, ◌%◌, slice_get}
 use Rattle.std.proofs.lemmas.Option.{slice_get_within}
 use Rattle.std.proofs.lemmas.List.{append-nil}
-use Rattle.std.proofs.lemmas.Nat.{div-mul-add, mod-mul-add}
 use Rattle.rc_ids.specs.Cluster.{Layout}
 use Rattle.rc_ids.specs.declared.names.NodeId.{NodeId}
-use Rattle.rc_ids.specs.declared.names.NodeId.TheVariants.{Coord, Shard as ShardServer}
+use Rattle.rc_ids.specs.declared.names.NodeId.TheVariants.{Coord}
 use Rattle.rc_disk.specs.declared.power.Power.TheVariants.{On}
 use Rattle.rc_disk.specs.Calls.{Told}
 use Rattle.rc_disk.specs.Places.{Standing}
 use Rattle.rc_devices.specs.Disks.{IsKept}
-use Rattle.rc_protocol.specs.Nodes.{shard_index}
 use Rattle.rc_begin.specs.Places.{coord_name, shard_name, AllAt}
-use Rattle.rc_begin.proofs.Lists.{shard_named}
 
 -- the farm has the disks of these hosts back, and no other changed
 pub record HaveBack {H : Type 0} (Is : H → Told → Type 0) (name : ℕ → NodeId) (lent_old lent : NodeId → Bool) (old new : NodeId → Standing) (hosts : List H) : Type 0 where
@@ -136,6 +133,10 @@ next_left done left rest all h is next = append_one done ∙ ap (λ (ls : List _
 pub none_left : {H : Type 0} (done left all : List H) → done ++ left ≡ all → length left ≡ 0 → done ≡ all
 none_left done [] all is none = sym (append-nil done) ∙ is
 none_left done (h ∷ rest) all is none = absurd (omega arith)
+
+pub back_all : {H : Type 0} (Is : H → Told → Type 0) (name : ℕ → NodeId) (lent_old lent : NodeId → Bool) (old new : NodeId → Standing) (done all : List H)
+    → HaveBack Is name lent_old lent old new done → done ≡ all → HaveBack Is name lent_old lent old new all
+back_all Is name lent_old lent old new done all back same = subst (HaveBack Is name lent_old lent old new) same back
 
 -- NAMES
 pub coords_apart : AreApart coord_name

@@ -1,5 +1,5 @@
 -- Hosts that are left to be given back.
-use Rattle.std.proofs.Common.{◌≡◌, ℕ, suc, ◌+◌, ◌-◌, ◌*◌, ◌<◌, ◌≤◌, Bool, true, false, List, ◌∷◌, IsTrue, ap, sym, subst, ◌∙◌, arith}
+use Rattle.std.proofs.Common.{◌≡◌, Bool, true, false, List, ◌∷◌, IsTrue, sym, subst}
 use Rattle.std.specs.Prelude.{◌&&◌}
 use Rattle.std.specs.List.{list_all}
 use Rattle.std.proofs.lemmas.Bool.{false≢true}
@@ -29,3 +29,6 @@ next_there stopped left rest h next well = there stopped h (well_parts stopped l
 
 pub rest_well : {N J D : Type 0} (stopped : N → Bool) (left rest : List (Host N J D)) (h : Host N J D) → left ≡ h ∷ rest → IsTrue (list_all (is_well stopped) left) → IsTrue (list_all (is_well stopped) rest)
 rest_well stopped left rest h next well = (well_parts stopped left rest h next well).1
+
+pub all_well : {N J D : Type 0} (stopped : N → Bool) (left all : List (Host N J D)) → left ≡ all → IsTrue (list_all (is_well stopped) all) → IsTrue (list_all (is_well stopped) left)
+all_well stopped left all same well = subst (λ (hs : List _). IsTrue (list_all (is_well stopped) hs)) (sym same) well

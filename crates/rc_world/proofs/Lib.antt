@@ -34,3 +34,5 @@ pub mod Weighing
 pub mod Powered
 pub mod Causing
 pub mod Started
+pub mod PendingFacts
+pub mod RowFacts

@@ -1,4 +1,4 @@
-use Rattle.std.proofs.Common.{◌≡◌, List, length, ◌++◌, IsTrue}
+use Rattle.std.proofs.Common.{◌≡◌, length, ◌++◌, IsTrue}
 use Rattle.std.specs.List.{list_all}
 use Rattle.rc_ids.specs.declared.names.NodeId.{NodeId}
 use Rattle.rc_log.specs.declared.log.Log.{Log}
