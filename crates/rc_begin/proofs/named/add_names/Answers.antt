@@ -1,4 +1,7 @@
-use Rattle.std.proofs.Common.{◌≡◌, length, arith}
+use Rattle.std.proofs.Common.{ℕ, List, subst, arith}
+use Rattle.std.specs.List.{AllByRecursion}
+use Rattle.rc_record.specs.Spelling.{HasRecord}
+use Rattle.rc_runs.specs.Stored.{records_of}
 use Rattle.rc_begin.proofs.LogSteps.{named_step}
 use Rattle.rc_begin.proofs.Haves.{blobs_have_more, all_blobs_have}
 use Rattle.rc_begin.proofs.named.add_names.Goals as goal
@@ -11,4 +14,4 @@ loop-place-preserved c = record {
 }
 
 pub returns-clause-has : goal.returns-clause-has
-returns-clause-has c = all_blobs_have _ c.loop-place.place (omega arith) c.loop-place.invariant.has
+returns-clause-has c = subst (λ (bs : List (List ℕ)). AllByRecursion HasRecord (records_of bs)) c.as_slice-log.ensures (all_blobs_have c.as_slice-log.result.now c.loop-place.place (omega arith) c.loop-place.invariant.has)
