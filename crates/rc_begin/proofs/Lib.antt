@@ -13,3 +13,4 @@ pub mod Refusing
 pub mod Homes
 pub mod Firsts
 pub mod AllBegin
+pub mod Returned

@@ -11,7 +11,7 @@ use Rattle.rc_host.specs.declared.host.Host.{Host}
 use Rattle.rc_begin.specs.Beginnings.{LastGrew}
 use Rattle.rc_begin.specs.Places.{coord_name, shard_name, AllAt}
 use Rattle.rc_begin.specs.Hosts.{Runs, Views, CoordsAreTold, ShardsAreTold}
-use Rattle.rc_begin.specs.Starts.{is_node_of, StandsKept, AreTold}
+use Rattle.rc_begin.specs.Starts.{is_node_of, StandsKept, AllAreTold}
 use Rattle.rc_begin.proofs.Lists.{same_or}
 use Rattle.rc_begin.proofs.Behind.{all_end}
 use Rattle.rc_begin.proofs.Serving.{all_in_front, all_same}
@@ -73,7 +73,7 @@ module _ (r : Runs) (lent_old lent_new : NodeId → Bool) (stands_old stands_new
   pub coord_told : {C S J D A E : Type 0} (v : Views C S J D) (result : Result A E) (coords coords_now : List (Host C J D)) (shards shards_now : List (Host S J D)) → coord_name (length coords) ≡ node
       → OnOk result (LastGrew v.coords coords coords_now (stands_old node).told) → OnErr result GrewBack
       → OnOk result (length coords_now ≡ length coords + 1) → OnOk result (take (length coords) coords_now ≡ coords) → OnErr result (coords_now ≡ coords) → OnErr result (lent_new node ≡ false) → shards_now ≡ shards
-      → AreTold v r lent_new stands_new coords_now shards_now → AreTold v r lent_old stands_old coords shards
+      → AllAreTold v r lent_new stands_new coords_now shards_now → AllAreTold v r lent_old stands_old coords shards
   coord_told v (Ok x) coords coords_now shards shards_now place grew back more front kept free rest told =
       let last = last_of coords coords_now more front in
       record {
@@ -92,7 +92,7 @@ module _ (r : Runs) (lent_old lent_new : NodeId → Bool) (stands_old stands_new
   pub shard_told : {C S J D A E : Type 0} (v : Views C S J D) (result : Result A E) (coords coords_now : List (Host C J D)) (shards shards_now : List (Host S J D)) → shard_name r.cluster (length shards) ≡ node
       → OnOk result (LastGrew v.shards shards shards_now (stands_old node).told) → OnErr result GrewBack
       → OnOk result (length shards_now ≡ length shards + 1) → OnOk result (take (length shards) shards_now ≡ shards) → OnErr result (shards_now ≡ shards) → OnErr result (lent_new node ≡ false) → coords_now ≡ coords
-      → AreTold v r lent_new stands_new coords_now shards_now → AreTold v r lent_old stands_old coords shards
+      → AllAreTold v r lent_new stands_new coords_now shards_now → AllAreTold v r lent_old stands_old coords shards
   shard_told v (Ok x) coords coords_now shards shards_now place grew back more front kept free rest told =
       let last = last_of shards shards_now more front in
       record {

@@ -29,7 +29,7 @@ abbrev pub AllStandKept : Runs → (NodeId → Standing) → Type 0
 AllStandKept r stands = (n : NodeId) → IsTrue (is_node_of r.cluster n) → StandsKept r stands n
 
 -- what the disks of all nodes tell, those that are lent on their hosts, is told at the end still
-pub record AreTold {C S J D : Type 0} (v : Views C S J D) (r : Runs) (lent : NodeId → Bool) (stands : NodeId → Standing) (coords : List (Host C J D)) (shards : List (Host S J D)) : Type 0 where
+pub record AllAreTold {C S J D : Type 0} (v : Views C S J D) (r : Runs) (lent : NodeId → Bool) (stands : NodeId → Standing) (coords : List (Host C J D)) (shards : List (Host S J D)) : Type 0 where
   pub of_coords : CoordsAreTold v.coords r coords
   pub of_shards : ShardsAreTold v.shards r shards
   pub home : (n : NodeId) → IsTrue (is_node_of r.cluster n) → lent n ≡ false → StandsKept r stands n

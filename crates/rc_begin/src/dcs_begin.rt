@@ -7,7 +7,7 @@ ghost use Rattle.rc_ids.specs.declared.names.NodeId.TheVariants.{Coord as Coordi
 ghost use Rattle.rc_runs.specs.Stored.{Place, nodes_of_dc, begins_all};
 ghost use Rattle.rc_disk.specs.declared.power.Power.TheVariants.{On};
 ghost use Rattle.rc_begin.specs.Beginnings.{BeginRefused};
-ghost use Rattle.rc_begin.specs.Starts.{AreTold};
+ghost use Rattle.rc_begin.specs.Starts.{AllAreTold};
 ghost use Rattle.rc_begin.specs.Wells.{is_well};
 ghost use Rattle.rc_begin.specs.Places.{coord_name};
 ghost use Rattle.rc_begin.specs.Hosts.{Runs, CoordsAreTold, ShardsAreTold};
@@ -39,9 +39,9 @@ fn begin_shards<F: Farm>(
         → OnOk result (AreGathered (views ⟦<Log<F::D> as Journal>⟧.state F.D.told F.D.content F.D.power) r p (nodes ++ servers dc cluster.now.shards) all.new.coords.items all.new.coord_logs.items all.new.shards.items all.new.shard_logs.items) }
     ensures err { (r : Runs) (p : Place) (nodes : List NodeName) → r.cluster ≡ cluster.now → length all.old.shards.items ≡ (dc - 1) * cluster.now.shards
         → ((sh : ℕ) → IsTrue (is_shard cluster.now sh) → IsLendable p r (F.stands farm.old) (ShardServer dc sh))
-        → AreGathered (views ⟦<Log<F::D> as Journal>⟧.state F.D.told F.D.content F.D.power) r p nodes all.old.coords.items all.old.coord_logs.items all.old.shards.items all.old.shard_logs.items → AreTold (views ⟦<Log<F::D> as Journal>⟧.state F.D.told F.D.content F.D.power) r (F.is_lent farm.new) (F.stands farm.new) all.new.coords.items all.new.shards.items
+        → AreGathered (views ⟦<Log<F::D> as Journal>⟧.state F.D.told F.D.content F.D.power) r p nodes all.old.coords.items all.old.coord_logs.items all.old.shards.items all.old.shard_logs.items → AllAreTold (views ⟦<Log<F::D> as Journal>⟧.state F.D.told F.D.content F.D.power) r (F.is_lent farm.new) (F.stands farm.new) all.new.coords.items all.new.shards.items
         → IfErr result (λ fault. BeginRefused (F.faults farm.old) (F.faults farm.new) (begins_all p r.cluster (nodes ++ servers dc cluster.now.shards)) fault) }
-    ensures grew { (r : Runs) → r.cluster ≡ cluster.now → length all.old.shards.items ≡ (dc - 1) * cluster.now.shards → AreTold (views ⟦<Log<F::D> as Journal>⟧.state F.D.told F.D.content F.D.power) r (F.is_lent farm.new) (F.stands farm.new) all.new.coords.items all.new.shards.items → AreTold (views ⟦<Log<F::D> as Journal>⟧.state F.D.told F.D.content F.D.power) r (F.is_lent farm.old) (F.stands farm.old) all.old.coords.items all.old.shards.items }
+    ensures grew { (r : Runs) → r.cluster ≡ cluster.now → length all.old.shards.items ≡ (dc - 1) * cluster.now.shards → AllAreTold (views ⟦<Log<F::D> as Journal>⟧.state F.D.told F.D.content F.D.power) r (F.is_lent farm.new) (F.stands farm.new) all.new.coords.items all.new.shards.items → AllAreTold (views ⟦<Log<F::D> as Journal>⟧.state F.D.told F.D.content F.D.power) r (F.is_lent farm.old) (F.stands farm.old) all.old.coords.items all.old.shards.items }
     ensures on { (n : NodeName) → F.is_lent farm.new n ≡ false → (F.stands farm.old n).power ≡ On → (F.stands farm.new n).power ≡ On }
     ensures rest { all.new.coords.items ≡ all.old.coords.items }
     ensures rest_logs { all.new.coord_logs.items ≡ all.old.coord_logs.items }
@@ -83,9 +83,9 @@ pub fn begin_dc<F: Farm>(
         → OnOk result (AreGathered (views ⟦<Log<F::D> as Journal>⟧.state F.D.told F.D.content F.D.power) r p (nodes ++ nodes_of_dc cluster.now dc) all.new.coords.items all.new.coord_logs.items all.new.shards.items all.new.shard_logs.items) }
     ensures err { (r : Runs) (p : Place) (nodes : List NodeName) → r.cluster ≡ cluster.now → coord_name (length all.old.coords.items) ≡ Coordinator dc → length all.old.shards.items ≡ (dc - 1) * cluster.now.shards
         → IsLendable p r (F.stands farm.old) (Coordinator dc) → ((sh : ℕ) → IsTrue (is_shard cluster.now sh) → IsLendable p r (F.stands farm.old) (ShardServer dc sh))
-        → AreGathered (views ⟦<Log<F::D> as Journal>⟧.state F.D.told F.D.content F.D.power) r p nodes all.old.coords.items all.old.coord_logs.items all.old.shards.items all.old.shard_logs.items → AreTold (views ⟦<Log<F::D> as Journal>⟧.state F.D.told F.D.content F.D.power) r (F.is_lent farm.new) (F.stands farm.new) all.new.coords.items all.new.shards.items
+        → AreGathered (views ⟦<Log<F::D> as Journal>⟧.state F.D.told F.D.content F.D.power) r p nodes all.old.coords.items all.old.coord_logs.items all.old.shards.items all.old.shard_logs.items → AllAreTold (views ⟦<Log<F::D> as Journal>⟧.state F.D.told F.D.content F.D.power) r (F.is_lent farm.new) (F.stands farm.new) all.new.coords.items all.new.shards.items
         → IfErr result (λ fault. BeginRefused (F.faults farm.old) (F.faults farm.new) (begins_all p r.cluster (nodes ++ nodes_of_dc cluster.now dc)) fault) }
-    ensures grew { (r : Runs) → r.cluster ≡ cluster.now → coord_name (length all.old.coords.items) ≡ Coordinator dc → length all.old.shards.items ≡ (dc - 1) * cluster.now.shards → AreTold (views ⟦<Log<F::D> as Journal>⟧.state F.D.told F.D.content F.D.power) r (F.is_lent farm.new) (F.stands farm.new) all.new.coords.items all.new.shards.items → AreTold (views ⟦<Log<F::D> as Journal>⟧.state F.D.told F.D.content F.D.power) r (F.is_lent farm.old) (F.stands farm.old) all.old.coords.items all.old.shards.items }
+    ensures grew { (r : Runs) → r.cluster ≡ cluster.now → coord_name (length all.old.coords.items) ≡ Coordinator dc → length all.old.shards.items ≡ (dc - 1) * cluster.now.shards → AllAreTold (views ⟦<Log<F::D> as Journal>⟧.state F.D.told F.D.content F.D.power) r (F.is_lent farm.new) (F.stands farm.new) all.new.coords.items all.new.shards.items → AllAreTold (views ⟦<Log<F::D> as Journal>⟧.state F.D.told F.D.content F.D.power) r (F.is_lent farm.old) (F.stands farm.old) all.old.coords.items all.old.shards.items }
     ensures on { (n : NodeName) → F.is_lent farm.new n ≡ false → (F.stands farm.old n).power ≡ On → (F.stands farm.new n).power ≡ On }
     ensures few { length all.new.coords.items ≤ length all.old.coords.items + 1 }
     ensures many { length all.old.coords.items ≤ length all.new.coords.items }

@@ -13,7 +13,7 @@ ghost use Rattle.rc_begin.specs.Hosts.{Runs, run_at, CoordsAreTold, ShardsAreTol
 ghost use Rattle.rc_begin.specs.Hosts.{views};
 ghost use Rattle.rc_begin.specs.Beginnings.{IsStartOf, BeginRefused};
 ghost use Rattle.rc_begin.specs.Gatherings.{AreGathered};
-ghost use Rattle.rc_begin.specs.Starts.{AreTold};
+ghost use Rattle.rc_begin.specs.Starts.{AllAreTold};
 
 use crate::WorldFault;
 use crate::gathering::begin_next;
@@ -51,7 +51,7 @@ pub(crate) fn begin_coord<F: Farm>(
         → OnOk result (AreGathered (views ⟦<Log<F::D> as Journal>⟧.state F.D.told F.D.content F.D.power) r p (nodes ++ Coordinator dc ∷ []) all.new.coords.items all.new.coord_logs.items all.new.shards.items all.new.shard_logs.items) }
     ensures err { (r : Runs) (p : Place) → r.cluster ≡ cluster.now → p.lend_fails (Coordinator dc) ≡ false → IsStartOf p (run_at r (Coordinator dc)) (F.stands farm.old (Coordinator dc))
         → IfErr result (λ fault. IfSome (F.stands farm.new (Coordinator dc)).told (λ t. IsKept t (r.ended (Coordinator dc))) → BeginRefused (F.faults farm.old) (F.faults farm.new) (begins_node p r.cluster (Coordinator dc)) fault) }
-    ensures grew { (r : Runs) → r.cluster ≡ cluster.now → coord_name (length all.old.coords.items) ≡ Coordinator dc → AreTold (views ⟦<Log<F::D> as Journal>⟧.state F.D.told F.D.content F.D.power) r (F.is_lent farm.new) (F.stands farm.new) all.new.coords.items all.new.shards.items → AreTold (views ⟦<Log<F::D> as Journal>⟧.state F.D.told F.D.content F.D.power) r (F.is_lent farm.old) (F.stands farm.old) all.old.coords.items all.old.shards.items }
+    ensures grew { (r : Runs) → r.cluster ≡ cluster.now → coord_name (length all.old.coords.items) ≡ Coordinator dc → AllAreTold (views ⟦<Log<F::D> as Journal>⟧.state F.D.told F.D.content F.D.power) r (F.is_lent farm.new) (F.stands farm.new) all.new.coords.items all.new.shards.items → AllAreTold (views ⟦<Log<F::D> as Journal>⟧.state F.D.told F.D.content F.D.power) r (F.is_lent farm.old) (F.stands farm.old) all.old.coords.items all.old.shards.items }
     ensures on { OnErr result ((F.stands farm.old (Coordinator dc)).power ≡ On → (F.stands farm.new (Coordinator dc)).power ≡ On) }
     ensures more { OnOk result (length all.new.coords.items ≡ length all.old.coords.items + 1) }
     ensures front { OnOk result (take (length all.old.coords.items) all.new.coords.items ≡ all.old.coords.items) }
@@ -93,7 +93,7 @@ pub(crate) fn begin_shard<F: Farm>(
         → OnOk result (AreGathered (views ⟦<Log<F::D> as Journal>⟧.state F.D.told F.D.content F.D.power) r p (nodes ++ ShardServer dc shard ∷ []) all.new.coords.items all.new.coord_logs.items all.new.shards.items all.new.shard_logs.items) }
     ensures err { (r : Runs) (p : Place) → r.cluster ≡ cluster.now → p.lend_fails (ShardServer dc shard) ≡ false → IsStartOf p (run_at r (ShardServer dc shard)) (F.stands farm.old (ShardServer dc shard))
         → IfErr result (λ fault. IfSome (F.stands farm.new (ShardServer dc shard)).told (λ t. IsKept t (r.ended (ShardServer dc shard))) → BeginRefused (F.faults farm.old) (F.faults farm.new) (begins_node p r.cluster (ShardServer dc shard)) fault) }
-    ensures grew { (r : Runs) → r.cluster ≡ cluster.now → shard_name r.cluster (length all.old.shards.items) ≡ ShardServer dc shard → AreTold (views ⟦<Log<F::D> as Journal>⟧.state F.D.told F.D.content F.D.power) r (F.is_lent farm.new) (F.stands farm.new) all.new.coords.items all.new.shards.items → AreTold (views ⟦<Log<F::D> as Journal>⟧.state F.D.told F.D.content F.D.power) r (F.is_lent farm.old) (F.stands farm.old) all.old.coords.items all.old.shards.items }
+    ensures grew { (r : Runs) → r.cluster ≡ cluster.now → shard_name r.cluster (length all.old.shards.items) ≡ ShardServer dc shard → AllAreTold (views ⟦<Log<F::D> as Journal>⟧.state F.D.told F.D.content F.D.power) r (F.is_lent farm.new) (F.stands farm.new) all.new.coords.items all.new.shards.items → AllAreTold (views ⟦<Log<F::D> as Journal>⟧.state F.D.told F.D.content F.D.power) r (F.is_lent farm.old) (F.stands farm.old) all.old.coords.items all.old.shards.items }
     ensures on { OnErr result ((F.stands farm.old (ShardServer dc shard)).power ≡ On → (F.stands farm.new (ShardServer dc shard)).power ≡ On) }
     ensures more { OnOk result (length all.new.shards.items ≡ length all.old.shards.items + 1) }
     ensures front { OnOk result (take (length all.old.shards.items) all.new.shards.items ≡ all.old.shards.items) }

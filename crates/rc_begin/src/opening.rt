@@ -9,7 +9,7 @@ ghost use Rattle.rc_begin.specs.Hosts.{Runs, CoordsAreTold, ShardsAreTold};
 ghost use Rattle.rc_begin.specs.Hosts.{views};
 ghost use Rattle.rc_begin.specs.Beginnings.{BeginRefused};
 ghost use Rattle.rc_begin.specs.Gatherings.{AreGathered};
-ghost use Rattle.rc_begin.specs.Starts.{is_node_of, AreLendable, AllStandKept, AreTold, AreLentFirst};
+ghost use Rattle.rc_begin.specs.Starts.{is_node_of, AreLendable, AllStandKept, AllAreTold, AreLentFirst};
 
 use crate::WorldFault;
 use crate::closing::{give_coords_back, give_shards_back};
@@ -47,11 +47,11 @@ fn begin_dcs<F: Farm>(
     requires no_coord_logs { all.old.coord_logs.items ≡ [] }
     requires no_shards { all.old.shards.items ≡ [] }
     requires no_shard_logs { all.old.shard_logs.items ≡ [] }
-    ensures ok { (r : Runs) (p : Place) → r.cluster ≡ cluster.now → AreLendable p r (F.stands farm.old) → AreTold (views ⟦<Log<F::D> as Journal>⟧.state F.D.told F.D.content F.D.power) r (F.is_lent farm.new) (F.stands farm.new) all.new.coords.items all.new.shards.items
+    ensures ok { (r : Runs) (p : Place) → r.cluster ≡ cluster.now → AreLendable p r (F.stands farm.old) → AllAreTold (views ⟦<Log<F::D> as Journal>⟧.state F.D.told F.D.content F.D.power) r (F.is_lent farm.new) (F.stands farm.new) all.new.coords.items all.new.shards.items
         → OnOk result (AreGathered (views ⟦<Log<F::D> as Journal>⟧.state F.D.told F.D.content F.D.power) r p (nodes_of cluster.now) all.new.coords.items all.new.coord_logs.items all.new.shards.items all.new.shard_logs.items) }
-    ensures err { (r : Runs) (p : Place) → r.cluster ≡ cluster.now → AreLendable p r (F.stands farm.old) → AreTold (views ⟦<Log<F::D> as Journal>⟧.state F.D.told F.D.content F.D.power) r (F.is_lent farm.new) (F.stands farm.new) all.new.coords.items all.new.shards.items
+    ensures err { (r : Runs) (p : Place) → r.cluster ≡ cluster.now → AreLendable p r (F.stands farm.old) → AllAreTold (views ⟦<Log<F::D> as Journal>⟧.state F.D.told F.D.content F.D.power) r (F.is_lent farm.new) (F.stands farm.new) all.new.coords.items all.new.shards.items
         → IfErr result (λ fault. BeginRefused (F.faults farm.old) (F.faults farm.new) (begins_all p r.cluster (nodes_of r.cluster)) fault) }
-    ensures grew { (r : Runs) → r.cluster ≡ cluster.now → AreTold (views ⟦<Log<F::D> as Journal>⟧.state F.D.told F.D.content F.D.power) r (F.is_lent farm.new) (F.stands farm.new) all.new.coords.items all.new.shards.items → AllStandKept r (F.stands farm.old) }
+    ensures grew { (r : Runs) → r.cluster ≡ cluster.now → AllAreTold (views ⟦<Log<F::D> as Journal>⟧.state F.D.told F.D.content F.D.power) r (F.is_lent farm.new) (F.stands farm.new) all.new.coords.items all.new.shards.items → AllStandKept r (F.stands farm.old) }
     ensures on { (n : NodeName) → F.is_lent farm.new n ≡ false → (F.stands farm.old n).power ≡ On → (F.stands farm.new n).power ≡ On }
     ensures coords { OnOk result (length all.new.coords.items ≡ cluster.now.dcs) }
     ensures shards { OnOk result (length all.new.shards.items ≡ cluster.now.dcs * cluster.now.shards) }
@@ -78,7 +78,7 @@ fn give_all_back<F: Farm>(farm: &mut F, cluster: &Cluster, all: Gathered<F>)
     requires well_shards { IsTrue (list_all (is_well (λ n. n.stopped)) all.shards.items) }
     requires lent { AreLentFirst (F.is_lent farm.old) cluster.now (length all.coords.items) (length all.shards.items) }
     ensures lent { (n : NodeName) → F.is_lent farm.new n ≡ false }
-    ensures told { (r : Runs) → r.cluster ≡ cluster.now → AllStandKept r (F.stands farm.new) → AreTold (views ⟦<Log<F::D> as Journal>⟧.state F.D.told F.D.content F.D.power) r (F.is_lent farm.old) (F.stands farm.old) all.coords.items all.shards.items }
+    ensures told { (r : Runs) → r.cluster ≡ cluster.now → AllStandKept r (F.stands farm.new) → AllAreTold (views ⟦<Log<F::D> as Journal>⟧.state F.D.told F.D.content F.D.power) r (F.is_lent farm.old) (F.stands farm.old) all.coords.items all.shards.items }
     ensures on { (n : NodeName) → F.is_lent farm.old n ≡ true → (F.stands farm.new n).power ≡ On }
     ensures others { (n : NodeName) → F.is_lent farm.old n ≡ false → F.stands farm.new n ≡ F.stands farm.old n }
     ensures start { (n : NodeName) → F.start farm.new n ≡ F.start farm.old n }

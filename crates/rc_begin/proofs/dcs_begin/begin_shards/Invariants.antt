@@ -10,7 +10,7 @@ use Rattle.rc_runs.specs.Stored.{Place}
 use Rattle.rc_begin.specs.Wells.{is_well}
 use Rattle.rc_begin.specs.Hosts.{Runs, ShardsAreTold}
 use Rattle.rc_begin.specs.Hosts.{views}
-use Rattle.rc_begin.specs.Starts.{AreTold}
+use Rattle.rc_begin.specs.Starts.{AllAreTold}
 use Rattle.rc_begin.specs.Gatherings.{AreGathered, IsLendable, are_lent, servers}
 use Rattle.rc_begin.proofs.dcs_begin.begin_shards.Given as goal
 
@@ -23,8 +23,8 @@ invariant-loop-count g l =
       home : (n : NodeId) → g.F.Farm.is_lent l.farm n ≡ false → g.F.Farm.stands l.farm n ≡ g.F.Farm.stands l.initial.farm n;
       later : g.F.Farm.faults l.initial.farm ≤ g.F.Farm.faults l.farm;
       told : (r : Runs) → r.cluster ≡ l.cluster → length l.initial.all.shards.items ≡ (l.dc - 1) * l.cluster.shards
-          → AreTold (views state g.F.D.Disk.told g.F.D.Disk.content g.F.D.Disk.power) r (g.F.Farm.is_lent l.farm) (g.F.Farm.stands l.farm) l.all.coords.items l.all.shards.items
-          → AreTold (views state g.F.D.Disk.told g.F.D.Disk.content g.F.D.Disk.power) r (g.F.Farm.is_lent l.initial.farm) (g.F.Farm.stands l.initial.farm) l.initial.all.coords.items l.initial.all.shards.items;
+          → AllAreTold (views state g.F.D.Disk.told g.F.D.Disk.content g.F.D.Disk.power) r (g.F.Farm.is_lent l.farm) (g.F.Farm.stands l.farm) l.all.coords.items l.all.shards.items
+          → AllAreTold (views state g.F.D.Disk.told g.F.D.Disk.content g.F.D.Disk.power) r (g.F.Farm.is_lent l.initial.farm) (g.F.Farm.stands l.initial.farm) l.initial.all.coords.items l.initial.all.shards.items;
       rest : l.all.coords.items ≡ l.initial.all.coords.items;
       rest_logs : l.all.coord_logs.items ≡ l.initial.all.coord_logs.items;
       more : length l.all.shards.items ≡ length l.initial.all.shards.items + l.count;

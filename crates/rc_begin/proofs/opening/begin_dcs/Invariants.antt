@@ -9,7 +9,7 @@ use Rattle.rc_begin.specs.Wells.{is_well}
 use Rattle.rc_begin.specs.Hosts.{Runs}
 use Rattle.rc_begin.specs.Hosts.{views}
 use Rattle.rc_begin.specs.Gatherings.{AreGathered}
-use Rattle.rc_begin.specs.Starts.{AreLendable, AllStandKept, AreTold, AreLentFirst}
+use Rattle.rc_begin.specs.Starts.{AreLendable, AllStandKept, AllAreTold, AreLentFirst}
 use Rattle.rc_begin.proofs.opening.begin_dcs.Given as goal
 
 abbrev pub invariant-loop-count : goal.invariant-loop-count
@@ -25,9 +25,9 @@ invariant-loop-count g l =
       start : (n : NodeId) → g.F.Farm.start l.farm n ≡ g.F.Farm.start l.initial.farm n;
       later : g.F.Farm.faults l.initial.farm ≤ g.F.Farm.faults l.farm;
       told : (r : Runs) → r.cluster ≡ l.cluster
-          → AreTold (views state g.F.D.Disk.told g.F.D.Disk.content g.F.D.Disk.power) r (g.F.Farm.is_lent l.farm) (g.F.Farm.stands l.farm) l.all.coords.items l.all.shards.items
+          → AllAreTold (views state g.F.D.Disk.told g.F.D.Disk.content g.F.D.Disk.power) r (g.F.Farm.is_lent l.farm) (g.F.Farm.stands l.farm) l.all.coords.items l.all.shards.items
           → AllStandKept r (g.F.Farm.stands l.initial.farm);
       gathered : (r : Runs) (p : Place) → r.cluster ≡ l.cluster → AreLendable p r (g.F.Farm.stands l.initial.farm)
-          → AreTold (views state g.F.D.Disk.told g.F.D.Disk.content g.F.D.Disk.power) r (g.F.Farm.is_lent l.farm) (g.F.Farm.stands l.farm) l.all.coords.items l.all.shards.items
+          → AllAreTold (views state g.F.D.Disk.told g.F.D.Disk.content g.F.D.Disk.power) r (g.F.Farm.is_lent l.farm) (g.F.Farm.stands l.farm) l.all.coords.items l.all.shards.items
           → AreGathered (views state g.F.D.Disk.told g.F.D.Disk.content g.F.D.Disk.power) r p (flat_map (nodes_of_dc l.cluster) (up_to l.count)) l.all.coords.items l.all.coord_logs.items l.all.shards.items l.all.shard_logs.items;
     }
