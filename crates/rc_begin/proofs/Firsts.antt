@@ -2,7 +2,7 @@
 use Rattle.std.proofs.Common.{◌≡◌, ℕ, zero, suc, ◌+◌, ◌-◌, ◌*◌, ◌<◌, ◌≤◌, Bool, true, false, refl, sym, ap, ◌∙◌, subst, arith, ◌⊎◌, inl, inr, ⊎_elim}
 use Rattle.std.specs.Prelude.{◌≢◌, ◌&&◌, nat_le, nat_lt}
 use Rattle.std.proofs.Math.Nat.{mul-le-mul_left}
-use Rattle.rc_ids.specs.Cluster.{Layout, is_dc, is_shard}
+use Rattle.rc_ids.specs.Cluster.{Layout, is_shard}
 use Rattle.rc_ids.specs.declared.names.NodeId.{NodeId}
 use Rattle.rc_ids.specs.declared.names.NodeId.TheVariants.{Coord, Shard as ShardServer}
 use Rattle.rc_disk.specs.Places.{Standing}
@@ -181,8 +181,10 @@ home_dc c n start old new lent_old lent_new first now others before x free =
   where
     no_coord_here : (n : ℕ) → (nat_le 1 (n + 1) && nat_le (n + 1) (n + 1)) ≡ false → ⊥
     no_coord_here n out = grind (arith, out)
+
     server_here : (n sh s x a b : ℕ) → x ≡ a → b ≡ a + s → (nat_le 1 sh && nat_le sh s) ≡ true → (nat_le 1 (n + 1) && (nat_le 1 sh && nat_le sh s) && nat_lt (x + (sh - 1)) b) ≡ true
     server_here n sh s x a b at is known = grind (arith, at, is, known)
+
     no_server_here : (sh : ℕ) → is_shard c sh ≡ true → is_among_first c (n + 1) ((n + 1) * c.shards) (ShardServer (n + 1) sh) ≡ false → ⊥
     no_server_here sh known out =
         let back : (n + 1) - 1 ≡ n = omega arith in

@@ -1,8 +1,8 @@
 -- The farm has the disks of the first nodes back.
-use Rattle.std.proofs.Common.{◌≡◌, ℕ, zero, suc, ◌+◌, ◌-◌, ◌*◌, ◌/◌, ◌<◌, ◌≤◌, Bool, true, false, List, length, IfSome, refl, sym, ap, ◌∙◌, subst, arith, ◌⊎◌, inl, inr, ⊎_elim}
+use Rattle.std.proofs.Common.{◌≡◌, ℕ, suc, ◌+◌, ◌-◌, ◌*◌, ◌/◌, ◌<◌, ◌≤◌, Bool, true, false, List, IfSome, refl, sym, ap, ◌∙◌, subst, arith, ◌⊎◌, inl, inr, ⊎_elim}
 use Rattle.std.specs.Prelude.{◌≢◌, ◌&&◌, ◌%◌, nat_le, nat_lt, IsTrue}
 use Rattle.std.proofs.lemmas.Nat.{mod_below}
-use Rattle.rc_ids.specs.Cluster.{Layout, IsLayout, is_dc_count, is_shard}
+use Rattle.rc_ids.specs.Cluster.{Layout, IsLayout, is_dc_count}
 use Rattle.rc_ids.specs.declared.names.NodeId.{NodeId}
 use Rattle.rc_ids.specs.declared.names.NodeId.TheVariants.{Coord, Shard as ShardServer}
 use Rattle.rc_disk.specs.declared.power.Power.TheVariants.{On}
@@ -49,8 +49,10 @@ module _ (c : Layout) (k m : ℕ) (few : k ≤ c.dcs) (few_shards : m ≤ c.dcs 
     where
       turned : (q s : ℕ) → (suc q - 1) * s ≡ s * q
       turned q s = let e : suc q - 1 ≡ q = omega arith in ap (λ (n : ℕ). n * s) e ∙ grind arith
+
       all_so : (q r s x : ℕ) → r < s → x < m → (nat_le 1 (suc q) && (nat_le 1 (suc r) && nat_le (suc r) s) && nat_lt x m) ≡ true
       all_so q r s x small lt = grind (arith, small, lt)
+
       within : (q r s place : ℕ) → r < s → s * q + r ≡ place → place < m → (nat_le 1 (suc q) && (nat_le 1 (suc r) && nat_le (suc r) s) && nat_lt ((suc q - 1) * s + (suc r - 1)) m) ≡ true
       within q r s place small whole below =
           let back : suc r - 1 ≡ r = omega arith in
@@ -70,6 +72,7 @@ module _ (c : Layout) (k m : ℕ) (few : k ≤ c.dcs) (few_shards : m ≤ c.dcs 
     where
       low_of : (d k : ℕ) → (nat_le 1 d && nat_le d k) ≡ true → 1 ≤ d
       low_of d k holds = grind (arith, holds)
+
       high_of : (d k : ℕ) → (nat_le 1 d && nat_le d k) ≡ true → d ≤ k
       high_of d k holds = grind (arith, holds)
   placed (ShardServer d sh) =
@@ -82,10 +85,13 @@ module _ (c : Layout) (k m : ℕ) (few : k ≤ c.dcs) (few_shards : m ≤ c.dcs 
     where
       lt_of : (d sh s x : ℕ) → (nat_le 1 d && (nat_le 1 sh && nat_le sh s) && nat_lt x m) ≡ true → x < m
       lt_of d sh s x holds = grind (arith, holds)
+
       low_of : (d sh s x : ℕ) → (nat_le 1 d && (nat_le 1 sh && nat_le sh s) && nat_lt x m) ≡ true → 1 ≤ d
       low_of d sh s x holds = grind (arith, holds)
+
       low_shard : (d sh s x : ℕ) → (nat_le 1 d && (nat_le 1 sh && nat_le sh s) && nat_lt x m) ≡ true → 1 ≤ sh
       low_shard d sh s x holds = grind (arith, holds)
+
       high_shard : (d sh s x : ℕ) → (nat_le 1 d && (nat_le 1 sh && nat_le sh s) && nat_lt x m) ≡ true → sh ≤ s
       high_shard d sh s x holds = grind (arith, holds)
 

@@ -1,5 +1,5 @@
 -- A disk at the start of a run, as its farm tells of it.
-use Rattle.std.proofs.Common.{◌≡◌, ℕ, Bool, false, List, Option, Some, Result, Err, IfOk, IfSome, refl, sym, ap, ◌∙◌, subst, inr, add-zero}
+use Rattle.std.proofs.Common.{◌≡◌, ℕ, Bool, false, List, Option, Some, Result, Err, IfSome, refl, sym, ap, ◌∙◌, subst, inr, add-zero}
 use Rattle.std.specs.Prelude.{if◌then◌else◌}
 use Rattle.rc_ids.specs.Cluster.{Layout}
 use Rattle.rc_ids.specs.declared.names.NodeId.{NodeId}
@@ -11,8 +11,8 @@ use Rattle.rc_runs.specs.Devices.{Device}
 use Rattle.rc_runs.specs.Session.{Halt, FarmFails}
 use Rattle.rc_runs.specs.Stored.{Place, Begun, begins_node, opens_log, device_at}
 use Rattle.rc_devices.specs.Disks.{IsKept}
-use Rattle.rc_host.specs.Hosts.{Sight, Run, IsToldBy}
-use Rattle.rc_host.specs.Begins.{IsAtStart, HasBegun, HasNotBegun}
+use Rattle.rc_host.specs.Hosts.{Run}
+use Rattle.rc_host.specs.Begins.{IsAtStart, HasNotBegun}
 use Rattle.rc_host.specs.declared.begins.BeginFault.{BeginFault}
 use Rattle.rc_host.specs.declared.begins.BeginFault.TheVariants.{NoMemory, DiskFailed, Refused, Limit}
 use Rattle.rc_begin.specs.declared.fault.WorldFault.{WorldFault}

@@ -1,5 +1,5 @@
 -- What the disks tell, as one node more begins.
-use Rattle.std.proofs.Common.{◌≡◌, ℕ, zero, suc, ◌+◌, Bool, true, false, List, [], ◌∷◌, ◌++◌, length, take, Result, Ok, Err, IfSome, refl, sym, ap, ◌∙◌, subst, arith, ◌⊎◌, inl, inr, ⊎_elim}
+use Rattle.std.proofs.Common.{◌≡◌, ℕ, suc, ◌+◌, Bool, false, List, [], ◌∷◌, ◌++◌, length, take, Result, Ok, Err, IfSome, refl, sym, ap, ◌∙◌, subst, arith, ◌⊎◌, inl, inr, ⊎_elim}
 use Rattle.std.specs.Prelude.{◌≢◌, OnOk, OnErr, IsTrue}
 use Rattle.rc_ids.specs.declared.names.NodeId.{NodeId}
 use Rattle.rc_ids.specs.declared.names.NodeId.TheVariants.{Coord, Shard as ShardServer}
@@ -9,7 +9,7 @@ use Rattle.rc_devices.specs.Disks.{IsKept}
 use Rattle.rc_host.specs.Hosts.{IsToldBy}
 use Rattle.rc_host.specs.declared.host.Host.{Host}
 use Rattle.rc_begin.specs.Beginnings.{LastGrew}
-use Rattle.rc_begin.specs.Places.{coord_name, shard_name, AllAt}
+use Rattle.rc_begin.specs.Places.{coord_name, shard_name}
 use Rattle.rc_begin.specs.Hosts.{Runs, Views, CoordsAreTold, ShardsAreTold}
 use Rattle.rc_begin.specs.Starts.{is_node_of, StandsKept, AllAreTold}
 use Rattle.rc_begin.proofs.Lists.{same_or}

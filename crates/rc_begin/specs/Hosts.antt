@@ -1,5 +1,5 @@
 -- The nodes of a world on their hosts.
-use Rattle.std.specs.Prelude.{◌≡◌, ℕ, Bool, false, List, slice_get, Option, Some}
+use Rattle.std.specs.Prelude.{◌≡◌, ℕ, Bool, false, List, slice_get, Option}
 use Rattle.rc_ids.specs.Tables.{maybe}
 use Rattle.rc_ids.specs.Cluster.{Layout}
 use Rattle.rc_ids.specs.declared.names.NodeId.{NodeId}

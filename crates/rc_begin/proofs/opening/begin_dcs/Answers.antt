@@ -1,4 +1,4 @@
-use Rattle.std.proofs.Common.{◌≡◌, ℕ, ◌+◌, ◌*◌, ◌<◌, ◌≤◌, ◌++◌, [], length, refl, sym, ap, ◌∙◌, arith}
+use Rattle.std.proofs.Common.{◌≡◌, ℕ, ◌+◌, ◌*◌, ◌<◌, ◌++◌, length, refl, sym, ap, ◌∙◌, arith}
 use Rattle.std.specs.List.{flat_map}
 use Rattle.rc_ids.specs.Tables.{up_to}
 use Rattle.rc_ids.specs.declared.names.NodeId.{NodeId}
@@ -9,7 +9,7 @@ use Rattle.rc_begin.specs.Beginnings.{BeginRefused}
 use Rattle.rc_begin.proofs.Serving.{lendable_still}
 use Rattle.rc_begin.proofs.Refusing.{given_on}
 use Rattle.rc_begin.proofs.Homes.{later_still, server_of_world, of_world, dc_of_world}
-use Rattle.rc_begin.proofs.Firsts.{more_places, next_places, fewer, none_outside, none_first, next_coord_free, next_server_free, lent_after, home_dc, first_as, fewer_before}
+use Rattle.rc_begin.proofs.Firsts.{more_places, next_places, none_outside, none_first, next_coord_free, next_server_free, lent_after, home_dc, first_as, fewer_before}
 use Rattle.rc_begin.proofs.AllBegin.{none_gathered, no_places, none_there, none_fails, next_coord, next_servers, next_dc, with_next_dc, gathered_as, all_refused, not_the_same}
 use Rattle.rc_begin.proofs.opening.begin_dcs.Goals as goal
 

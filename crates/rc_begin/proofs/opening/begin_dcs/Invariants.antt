@@ -1,4 +1,4 @@
-use Rattle.std.proofs.Common.{◌≡◌, ℕ, ◌*◌, ◌≤◌, false, List, length, IsTrue}
+use Rattle.std.proofs.Common.{◌≡◌, ◌*◌, ◌≤◌, false, length, IsTrue}
 use Rattle.std.specs.List.{list_all, flat_map}
 use Rattle.rc_ids.specs.Tables.{up_to}
 use Rattle.rc_ids.specs.declared.names.NodeId.{NodeId}
