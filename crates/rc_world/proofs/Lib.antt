@@ -35,3 +35,5 @@ pub mod Powered
 pub mod Causing
 pub mod PendingFacts
 pub mod RowFacts
+pub mod Closed
+pub mod ShownFacts
