@@ -36,3 +36,5 @@ pub mod Causing
 pub mod Started
 pub mod PendingFacts
 pub mod RowFacts
+pub mod Closed
+pub mod ShownFacts

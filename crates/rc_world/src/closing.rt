@@ -35,6 +35,8 @@ impl<F: Farm> World<F> {
             events: _,
             deliveries: _,
         } = self;
+        let dcs = cluster.dcs() as usize;
+        prove!(coords.len() == dcs);
         give_coords_back::<F>(farm, coords);
         give_shards_back::<F>(farm, &cluster, shards);
     }

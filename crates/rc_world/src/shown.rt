@@ -55,10 +55,11 @@ fn show_one<D: Disk>(
     if !is_shard_of(cluster, dc, shard) {
         return Ok(());
     }
-    match shards.get(place_of(cluster, dc, shard)) {
-        Some(host) => show_host(alloc, NodeId::Shard(dc, shard), host, lines),
-        None => Ok(()),
+    let place = place_of(cluster, dc, shard);
+    if place >= shards.len() {
+        return Ok(());
     }
+    show_host(alloc, NodeId::Shard(dc, shard), &shards[place], lines)
 }
 
 /// Adds the lines of the shard servers of a datacentre.
