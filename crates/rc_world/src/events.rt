@@ -5,7 +5,6 @@ ghost use Rattle.rc_runs.specs.Session.{Session};
 ghost use Rattle.rc_begin.specs.Hosts.{views};
 ghost use Rattle.rc_world.specs.Words.{parts_of};
 ghost use Rattle.rc_world.specs.Asked.{IsCut};
-ghost use Rattle.rc_begin.specs.Places.{coord_name, shard_name};
 ghost use Rattle.rc_begin.specs.Hosts.{Runs};
 ghost use Rattle.rc_world.specs.Limits.{CauseIs};
 ghost use Rattle.rc_world.specs.Worlds.{IsWorld, HasActed, HasStepped, KeepsCarried, KeepsParties, AreTold};

@@ -12,7 +12,6 @@ ghost use Rattle.rc_grammar.specs.Acts.{HasNodeCause};
 ghost use Rattle.rc_grammar.specs.Worlds.{HasEvent};
 ghost use Rattle.rc_begin.specs.Hosts.{views};
 ghost use Rattle.rc_world.specs.Words.{parts_of};
-ghost use Rattle.rc_begin.specs.Places.{coord_name, shard_name};
 ghost use Rattle.rc_begin.specs.Hosts.{Runs, CoordsAreTold, ShardsAreTold};
 ghost use Rattle.rc_world.specs.Steps.{IsDone, node_does};
 ghost use Rattle.rc_world.specs.Limits.{CauseIs};

@@ -7,7 +7,6 @@ ghost use Rattle.rc_runs.specs.Session.{Session};
 ghost use Rattle.rc_runs.specs.World.{is_up};
 ghost use Rattle.rc_begin.specs.Hosts.{views};
 ghost use Rattle.rc_world.specs.Words.{parts_of};
-ghost use Rattle.rc_begin.specs.Places.{coord_name, shard_name};
 ghost use Rattle.rc_begin.specs.Hosts.{Runs};
 ghost use Rattle.rc_world.specs.Steps.{event_limit};
 ghost use Rattle.rc_world.specs.Limits.{CauseIs};

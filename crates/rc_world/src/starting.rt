@@ -12,7 +12,7 @@ ghost use Rattle.rc_runs.specs.Session.{Session};
 ghost use Rattle.rc_runs.specs.World.{is_up, is_shard_of as is_of_world};
 ghost use Rattle.rc_host.specs.AnyNode.{IsCoordinator, IsShardServer, coord_seen, shard_seen};
 ghost use Rattle.rc_host.specs.Hosts.{sight};
-ghost use Rattle.rc_begin.specs.Places.{coord_name, shard_name, AreAt};
+ghost use Rattle.rc_begin.specs.Places.{AreAt};
 ghost use Rattle.rc_begin.specs.Wells.{is_well};
 ghost use Rattle.rc_begin.specs.Hosts.{Runs, IsCoord, IsShard, CoordsAreTold, ShardsAreTold};
 ghost use Rattle.rc_world.specs.Acted.{ShardsActed};
