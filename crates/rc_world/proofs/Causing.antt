@@ -1,16 +1,14 @@
 -- Why an event does not happen, from why nobody acted in it.
-use Rattle.std.proofs.Common.{◌≡◌, ℕ, Bool, true, false, List, [], length, Option, None, Some, Result, Ok, Err, IfErr, refl, sym, ◌∙◌, ap, subst}
+use Rattle.std.proofs.Common.{◌≡◌, ℕ, Bool, true, false, List, length, Option, None, Some, Result, Ok, Err, IfErr, sym, ◌∙◌, ap, subst}
 use Rattle.std.specs.Prelude.{IsErrAnd, nat_le, if◌then◌else◌, ◌&&◌}
 use Rattle.rc_report.specs.declared.fault.Which.{Which}
-use Rattle.rc_report.specs.declared.fault.Which.TheVariants.{Transactions, Events, Ballots, Version}
+use Rattle.rc_report.specs.declared.fault.Which.TheVariants.{Transactions, Ballots, Version}
 use Rattle.rc_report.specs.declared.fault.Wrong.{Wrong}
 use Rattle.rc_runs.specs.declared.event.Event.{Event}
 use Rattle.rc_runs.specs.Devices.{Device}
 use Rattle.rc_runs.specs.World.{Deed, Idle, ByClient, ByCoord, ByShard, CoordStops, ShardStops, Course, Goes, Stops, along, deed}
 use Rattle.rc_runs.specs.Refusals.{wrong, begins, worn_out, most_transactions}
 use Rattle.rc_runs.specs.Session.{Session, Limited, disk_change, happens}
-use Rattle.rc_world.specs.declared.clients.Refused.{Refused}
-use Rattle.rc_world.specs.declared.clients.Refused.TheVariants as refusals
 use Rattle.rc_begin.specs.declared.fault.WorldFault.{WorldFault}
 use Rattle.rc_begin.specs.declared.fault.WorldFault.TheVariants.{NoMemory, Farm, Log, Limit, Naming}
 use Rattle.rc_world.specs.Steps.{early_limit, event_limit}

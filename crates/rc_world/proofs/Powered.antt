@@ -1,6 +1,6 @@
 -- A world after an event in which a node was stopped, armed or started, and nothing entered its log.
-use Rattle.std.proofs.Common.{◌≡◌, ℕ, Bool, true, false, List, [], ◌∷◌, length, Option, None, Some, IsTrue, IfSome, Result, Ok, Err, IfOk, refl, sym, ◌∙◌, ap, subst, arith}
-use Rattle.std.specs.Prelude.{slice_get, slice_set, if◌then◌else◌, ◌<◌, ◌-◌, ◌^◌}
+use Rattle.std.proofs.Common.{◌≡◌, ℕ, Bool, true, false, List, [], ◌∷◌, length, Option, None, Some, IsTrue, Result, Ok, Err, IfOk, refl, sym, ◌∙◌, ap, subst, arith}
+use Rattle.std.specs.Prelude.{slice_get, slice_set, if◌then◌else◌}
 use Rattle.rc_ids.specs.Tables.{maybe}
 use Rattle.rc_ids.specs.Cluster.{Layout, is_dc}
 use Rattle.rc_ids.specs.declared.names.NodeId.{NodeId}
@@ -22,15 +22,11 @@ use Rattle.rc_runs.specs.Devices.{Device, opened_once}
 use Rattle.rc_runs.specs.Session.{Session, no_device, device_in, device_of, with_device, change_on, with_change}
 use Rattle.rc_order.specs.Orders.{Order, IsAsBefore}
 use Rattle.rc_order.specs.Counts.{CountLaws}
-use Rattle.rc_host.specs.Hosts.{Sight}
-use Rattle.rc_host.specs.Disks.{told_by}
 use Rattle.rc_host.specs.declared.host.Host.{Host}
-use Rattle.rc_host.specs.declared.host.Host.TheVariants as hosts
 use Rattle.rc_world.specs.declared.world.Sending.{Sending}
 use Rattle.rc_begin.specs.declared.fault.WorldFault.{WorldFault}
 use Rattle.rc_world.specs.Noted.{Notes}
 use Rattle.rc_begin.specs.Hosts.{Views, Runs, CoordsAreTold, ShardsAreTold}
-use Rattle.rc_begin.specs.Places.{AllAt}
 use Rattle.rc_world.specs.CoordActed.{CoordsActed}
 use Rattle.rc_world.specs.Steps.{EventActed, event_limit}
 use Rattle.rc_world.specs.Mail.{IsMail}

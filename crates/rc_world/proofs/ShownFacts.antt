@@ -1,5 +1,5 @@
 -- What shows a shard server, off its host.
-use Rattle.std.proofs.Common.{◌≡◌, ◌≤◌, ◌<◌, ◌+◌, ◌-◌, ℕ, zero, suc, Bool, true, false, List, [], ◌∷◌, ◌++◌, map, length, get_or, Option, None, Some, refl, sym, ◌∙◌, ap, subst, arith}
+use Rattle.std.proofs.Common.{◌≡◌, ◌≤◌, ◌<◌, ◌+◌, ◌-◌, ℕ, zero, suc, true, false, List, [], ◌∷◌, ◌++◌, map, length, get_or, Option, None, Some, refl, sym, ◌∙◌, ap, subst, arith}
 use Rattle.std.specs.Prelude.{slice_get, if◌then◌else◌}
 use Rattle.std.specs.List.{flat_map}
 use Rattle.std.proofs.lemmas.List.{append-nil, flat_map_more}
@@ -19,9 +19,9 @@ use Rattle.rc_protocol.specs.Shown.{row_lines}
 use Rattle.rc_runs.specs.Devices.{Device}
 use Rattle.rc_runs.specs.World.{is_shard_of}
 use Rattle.rc_shard.specs.Sites.{ShardCore}
-use Rattle.rc_host.specs.AnyNode.{NodeDurable, OfShard, shard_back, shard_seen}
+use Rattle.rc_host.specs.AnyNode.{OfShard, shard_back, shard_seen}
 use Rattle.rc_host.specs.Standing.{shard_standing}
-use Rattle.rc_host.specs.Hosts.{Sight, sight, is_up}
+use Rattle.rc_host.specs.Hosts.{sight, is_up}
 use Rattle.rc_host.specs.declared.host.Host.{Host}
 use Rattle.rc_host.specs.declared.host.Host.TheVariants.{Up}
 use Rattle.rc_begin.specs.Places.{AreAt, shard_name}

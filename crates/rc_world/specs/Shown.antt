@@ -1,5 +1,5 @@
 -- What a world shows of its messages and of its shard servers.
-use Rattle.std.specs.Prelude.{ℕ, List, [], ◌∷◌, map, Option, None, is_some, if◌then◌else◌, slice_get}
+use Rattle.std.specs.Prelude.{ℕ, List, [], ◌∷◌, map, None, is_some, if◌then◌else◌, slice_get}
 use Rattle.std.specs.List.Sorted.{IsStrictlySortedBy}
 use Rattle.rc_ids.specs.Tables.{Table, maybe}
 use Rattle.rc_ids.specs.Texts.{key_cmp}

@@ -1,5 +1,4 @@
 -- What a world is made of.
-use Rattle.std.specs.Prelude.{ℕ, List}
 use Rattle.rc_log.specs.declared.log.Log.{Log}
 use Rattle.rc_coord.specs.Sites.{CoordCore}
 use Rattle.rc_shard.specs.Sites.{ShardCore}

@@ -20,7 +20,7 @@ ghost use Rattle.rc_host.specs.declared.host.Course.TheVariants.{Stops};
 ghost use Rattle.rc_grammar.specs.Acts.{HasNodeCause};
 ghost use Rattle.rc_grammar.specs.Worlds.{HasWorld};
 ghost use Rattle.rc_begin.specs.declared.fault.WorldFault.TheVariants.{NoMemory as OutOfMemory};
-ghost use Rattle.rc_begin.specs.Places.{AreAt, AllAt};
+ghost use Rattle.rc_begin.specs.Places.{AreAt};
 ghost use Rattle.rc_begin.specs.Wells.{is_well};
 ghost use Rattle.rc_begin.specs.Hosts.{Runs, IsCoord, CoordsAreTold};
 ghost use Rattle.rc_world.specs.Steps.{IsDone};

@@ -1,6 +1,4 @@
 // The votes of coordinators enter the order.
-ghost use Rattle.std.specs.Prelude.{◌≡◌, ℕ, List, Option, Some, IsTrue};
-ghost use Rattle.rc_ids.specs.Cluster.{Layout, is_dc};
 ghost use Rattle.rc_order.specs.Orders.{HasRoom};
 ghost use Rattle.rc_world.specs.Noted.{Notes};
 

@@ -86,12 +86,6 @@ impl<F: Farm> World<F> {
     pub fn show(&self, dc: DcId, lines: &mut Lines) -> Result<(), NoMemory>
         ensures { (r : Runs) (z : Session) → IsWorld (views ⟦<Log<F::D> as Journal>⟧.state F.D.told F.D.content F.D.power) r (parts_of self.now) z → OnOk result (lines.new ≡ lines.old ++ shown_lines z.world.parties dc) }
     {
-        show_all(
-            self.alloc,
-            &self.cluster,
-            self.shards.as_slice(),
-            dc,
-            lines,
-        )
+        show_all(self.alloc, &self.cluster, self.shards.as_slice(), dc, lines)
     }
 }

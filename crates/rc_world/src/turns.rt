@@ -1,5 +1,5 @@
 // A node that is up does what moves it.
-ghost use Rattle.std.specs.Prelude.{◌≡◌, [], ℕ, List, true, false, Ok, IfOk, IfErr, IfSome};
+ghost use Rattle.std.specs.Prelude.{◌≡◌, [], true, false, Ok, IfOk, IfErr, IfSome};
 ghost use Rattle.rc_ids.specs.declared.names.Party.TheVariants.{Node as NodeParty};
 ghost use Rattle.rc_msg.specs.Outboxes.{new_outbox};
 ghost use Rattle.rc_record.specs.Spelling.{HasRecord};

@@ -1,4 +1,4 @@
-use Rattle.std.proofs.Common.{◌≡◌, Bool, true, false, length, ◌∙◌}
+use Rattle.std.proofs.Common.{◌≡◌, Bool, false, length, ◌∙◌}
 use Rattle.rc_disk.specs.declared.power.Power.TheVariants.{On}
 use Rattle.rc_disk.specs.Places.{Standing}
 use Rattle.rc_world.proofs.Closed.{few_dcs, coord_of_world, of_all, none_other, still_lent, coords_kept, shards_kept}
