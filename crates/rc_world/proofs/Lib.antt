@@ -33,7 +33,6 @@ pub mod ShardStops
 pub mod Weighing
 pub mod Powered
 pub mod Causing
-pub mod Started
 pub mod PendingFacts
 pub mod RowFacts
 pub mod Closed

@@ -1,5 +1,5 @@
 -- A world on its hosts, as the session of a run.
-use Rattle.std.specs.Prelude.{◌≡◌, ◌≢◌, ℕ, ◌*◌, ◌≤◌, List, [], length, None, Result, Ok}
+use Rattle.std.specs.Prelude.{◌≡◌, ◌≢◌, ℕ, ◌*◌, ◌≤◌, List, [], length, None}
 use Rattle.rc_ids.specs.Cluster.{Layout}
 use Rattle.rc_ids.specs.declared.names.Party.{Party}
 use Rattle.rc_ids.specs.declared.sends.Letter.{Letter}
@@ -10,7 +10,7 @@ use Rattle.rc_protocol.specs.Messages.{Posts}
 use Rattle.rc_runs.specs.World.{World, Parties, actor}
 use Rattle.rc_runs.specs.Refusals.{wrong}
 use Rattle.rc_runs.specs.Devices.{Device}
-use Rattle.rc_runs.specs.Session.{Session, Halt}
+use Rattle.rc_runs.specs.Session.{Session}
 use Rattle.rc_host.specs.declared.host.Host.{Host}
 use Rattle.rc_grammar.specs.Worlds.{HasWorld}
 use Rattle.rc_order.specs.Orders.{Order}
@@ -72,12 +72,6 @@ pub record HasStepped {C S J D : Type 0} (v : Views C S J D) (r : Runs) (z : Ses
   pub after : Session
   pub stepped : Stepped z e after own
   pub is : IsWorld v r new after
-
--- the run begins so, and the world is its session
-pub record HasStarted {C S J D : Type 0} (v : Views C S J D) (r : Runs) (w : Parts (Host C J D) (Host S J D)) (begins : Result Session Halt) : Type 0 where
-  pub session : Session
-  pub is : begins ≡ Ok session
-  pub world : IsWorld v r w session
 
 -- no part but the parties changed
 pub record KeepsCarried {C S : Type 0} (old new : Parts C S) : Type 0 where

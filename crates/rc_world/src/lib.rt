@@ -9,7 +9,6 @@ mod events;
 mod mail;
 mod nodes;
 mod noting;
-mod opening;
 mod pendings;
 mod places;
 mod powering;
